@@ -1,0 +1,2 @@
+-- The definitions that this crate's contract and laws cite.
+pub mod Marks

@@ -1,0 +1,105 @@
+-- What each operation leaves alone, and a way to say a thing of each operation once.
+use Prim.Native.Nat.{ℕ, zero, suc, _+_, _<_, _≤_}
+use mathlib.Core.Path.{_≡_, refl, sym, ap, _∙_}
+use mathlib.Core.Logic.{_≢_}
+use mathlib.Core.Bool.{Bool, true, false, _||_, false≢true}
+use mathlib.Core.List.{List}
+use native.Mathlib.Omega.{arith}
+use native.Mathlib.Nat.{le-of-suc-le-suc}
+use lib.Dec.{ltb, eqb}
+use lib.ListN.{length, List·getD-eq-default}
+use borrow.Author.Tests.{ltb-true, ltb-false}
+use Rattle.rules.specs.declared.Table.{Table}
+use Rattle.rules.specs.declared.Call.{Call}
+use Rattle.rules.specs.Numbers.{CLEAR, ENTER, EXIT, SEND}
+use Rattle.rules.specs.Words.{byOperation}
+use Rattle.rules.specs.Tables.{settled}
+use Rattle.rules.specs.Effects.{Effect, plain, nothing, operations, effect}
+
+-- ---- by operation
+
+-- P at each number below n
+abbrev pub Upto {ℓ} : ℕ → (ℕ → Type ℓ) → Type ℓ
+Upto zero P = Unit
+Upto (suc n) P = P zero × Upto n (λ k. P (suc k))
+
+pub upto {ℓ} : (n : ℕ) (P : ℕ → Type ℓ) → Upto n P → (k : ℕ) → k < n → P k
+upto zero P p k h = absurd (omega arith)
+upto (suc n) P p zero h = p .0
+upto (suc n) P p (suc k) h = upto n (λ j. P (suc j)) (p .1) k (le-of-suc-le-suc h)
+
+-- a number past the ten does nothing
+pub effect-past : (t : Table) (c : Call) → length operations ≤ c .operation → effect t c ≡ plain t
+unfolding effect
+effect-past t c h = ap (λ f. f t c) (List·getD-eq-default operations nothing h)
+
+-- what holds of each operation's effect, and of nothing done, holds of every call's effect
+pub each-effect {ℓ} : (t : Table) (c : Call) (P : ℕ → Effect → Type ℓ)
+    → Upto 10 (λ n. P n (byOperation nothing n operations t c)) → ((n : ℕ) → P n (plain t)) → P (c .operation) (effect t c)
+unfolding effect
+each-effect t c P each none = go (ltb (c .operation) 10) refl
+  where
+    go : (b : Bool) → ltb (c .operation) 10 ≡ b → P (c .operation) (effect t c)
+    go true h = upto 10 (λ n. P n (byOperation nothing n operations t c)) each (c .operation) (ltb-true (c .operation) 10 h)
+    go false h = rw (effect-past t c (ltb-false (c .operation) 10 h)) (none (c .operation))
+
+-- ---- what is left alone
+
+never : {X : Type 0} → false ≡ true → X
+never h = absurd (false≢true h)
+
+-- counts and bounds, and the elected task until the election
+pub record Frame : Type 0 where
+  pub tasks : ℕ
+  pub regions : ℕ
+  pub queues : ℕ
+  pub elected : ℕ
+  pub bound : List ℕ
+
+abbrev pub frameOf : Table → Frame
+frameOf t = record { tasks = t .tasks; regions = t .regions; queues = t .queues; elected = t .elected; bound = t .bound }
+
+-- what the queues hold
+pub record Contents : Type 0 where
+  pub length : List ℕ
+  pub element : List ℕ
+  pub criterion : List ℕ
+
+abbrev pub contentsOf : Table → Contents
+contentsOf t = record { length = t .length; element = t .element; criterion = t .criterion }
+
+module _ (t : Table) (c : Call) where
+  -- no operation changes counts or bounds
+  pub frame-kept : frameOf (effect t c .table) ≡ frameOf t
+  frame-kept =
+      each-effect t c (λ n e. frameOf (e .table) ≡ frameOf t)
+      (refl, (refl, (refl, (refl, (refl, (refl, (refl, (refl, (refl, (refl, tt))))))))))
+      (λ n. refl)
+
+  -- only the first six change a task
+  pub tasks-kept : ltb CLEAR (c .operation) ≡ true → effect t c .table .task ≡ t .task
+  tasks-kept =
+      each-effect t c (λ n e. ltb CLEAR n ≡ true → e .table .task ≡ t .task)
+      (never, (never, (never, (never, (never, (never, (λ h. refl, (λ h. refl, (λ h. refl, (λ h. refl, tt))))))))))
+      (λ n h. refl)
+
+  -- only ENTER and EXIT change a holder
+  pub holders-kept : (eqb (c .operation) ENTER || eqb (c .operation) EXIT) ≡ false → effect t c .table .holder ≡ t .holder
+  holders-kept =
+      each-effect t c (λ n e. (eqb n ENTER || eqb n EXIT) ≡ false → e .table .holder ≡ t .holder)
+      (λ h. refl, (λ h. refl, (λ h. refl, (λ h. refl, (λ h. refl, (λ h. refl, (λ h. never (sym h), (λ h. never (sym h), (λ h. refl, (λ h. refl, tt))))))))))
+      (λ n h. refl)
+
+  -- only SEND and RETRIEVE change what the queues hold
+  pub contents-kept : ltb (c .operation) SEND ≡ true → contentsOf (effect t c .table) ≡ contentsOf t
+  contents-kept =
+      each-effect t c (λ n e. ltb n SEND ≡ true → contentsOf (e .table) ≡ contentsOf t)
+      (λ h. refl, (λ h. refl, (λ h. refl, (λ h. refl, (λ h. refl, (λ h. refl, (λ h. refl, (λ h. refl, (never, (never, tt))))))))))
+      (λ n h. refl)
+
+  -- an operation that changes neither a task nor a holder changes nothing that the election reads
+  pub election-kept : ltb EXIT (c .operation) ≡ true → settled (effect t c .table) .elected ≡ settled t .elected
+  election-kept =
+      each-effect t c (λ n e. ltb EXIT n ≡ true → settled (e .table) .elected ≡ settled t .elected)
+      (never, (never, (never, (never, (never, (never, (never, (never, (λ h. refl, (λ h. refl, tt))))))))))
+      (λ n h. refl)

@@ -1,0 +1,163 @@
+-- The ten P rows of document 01's bench examples, as one list, shown right by one claim that antt computes.
+use Prim.Native.Nat.{ℕ}
+use mathlib.Core.Path.{_≡_, refl}
+use mathlib.Core.Bool.{Bool, true, false, cond, _&&_}
+use mathlib.Core.List.{List, [], _∷_}
+use lib.Dec.{eqb}
+use Rattle.rules.specs.declared.Table.{Table}
+use Rattle.rules.specs.declared.Call.{Call}
+use Rattle.rules.specs.declared.Answer.{Answer}
+use Rattle.rules.specs.declared.Done.{Done}
+use Rattle.rules.specs.Numbers.{outside, nobody, START, STOP, END, SIGNAL, WAIT, CLEAR, ENTER, EXIT, SEND, RETRIEVE}
+use Rattle.rules.specs.Words.{all, every, below, padded}
+use Rattle.rules.specs.Events.{met, arrive, cleared}
+use Rattle.rules.specs.Tasks.{woken, signalled, waited}
+use Rattle.rules.specs.Regions.{held}
+use Rattle.rules.specs.Queues.{pairs, front, behind, laid, largest, before, place, without}
+use Rattle.rules.specs.Election.{smallest, lowest, bestReady, election}
+use Rattle.rules.specs.Tables.{taskOf, queueOf}
+use Rattle.rules.specs.Validity.{shaped, countsInRange, prioritiesInRange, boundsInRange, listsInRange, operatorsInRange, holdersInRange, criteriaInRange, zeroRow, zeroPastCounts, zeroPastLengths, restRight, statesRight, oneHolder, holderReady, holderElected, lengthsRight, electedRight, valid}
+use Rattle.rules.specs.Fresh.{configurationInRange, freshTable, fresh}
+use Rattle.rules.specs.Refusals.{missing, wrongState, leaves, reasons, refusal}
+use Rattle.rules.specs.Effects.{effect}
+use Rattle.rules.specs.Step.{step}
+
+-- a call, and the answer that document 01 gives for it
+pub record Said : Type 0 where
+  pub call : Call
+  pub answer : Answer
+
+-- what document 01 says of a task's events at the end of a run
+pub record Events : Type 0 where
+  pub task : ℕ
+  pub arrived : ℕ
+
+-- calls from a fresh table on, in their order
+pub record Run : Type 0 where
+  pub says : List Said
+  pub shows : List Events
+
+-- who calls, the operation and its numbers, then status, value, key and elected task
+abbrev gives : ℕ → ℕ → ℕ → ℕ → ℕ → ℕ → ℕ → ℕ → ℕ → Said
+gives who operation a b c status value key elected =
+    record {
+      call = record { caller = who; operation = operation; a = a; b = b; c = c };
+      answer = record { status = status; value = value; key = key; elected = elected };
+    }
+
+-- the same where value and key are 0
+abbrev says : ℕ → ℕ → ℕ → ℕ → ℕ → ℕ → ℕ → Said
+says who operation a b c status elected = gives who operation a b c status 0 0 elected
+
+-- a run, and a run at whose end a task's events are named
+abbrev run : List Said → Run
+run calls = record { says = calls; shows = [] }
+
+abbrev endsWith : ℕ → ℕ → List Said → Run
+endsWith task arrived calls = record { says = calls; shows = record { task = task; arrived = arrived } ∷ [] }
+
+sameAnswer : Answer → Answer → Bool
+sameAnswer x y =
+    eqb (x .status) (y .status) && eqb (x .value) (y .value) && eqb (x .key) (y .key) && eqb (x .elected) (y .elected)
+
+sameEvents : Table → Events → Bool
+sameEvents t e = eqb (taskOf t (e .task) .arrived) (e .arrived)
+
+rightFrom : Table → List Said → List Events → Bool
+rightFrom t [] shows = every (sameEvents t) shows
+rightFrom t (s ∷ ss) shows =
+    let d = step t (s .call) in
+    sameAnswer (d .answer) (s .answer) && rightFrom (d .table) ss shows
+
+-- "Each starts fresh: priorities 5, 5, 2, two regions, one queue of bound 2."
+begun : Done
+begun = fresh 3 2 1 (5 ∷ 5 ∷ 2 ∷ []) (2 ∷ [])
+
+right : Run → Bool
+right r = rightFrom (begun .table) (r .says) (r .shows)
+
+-- each run of each row gives what is said of it, and the fresh table is accepted
+pub rowsRight : List (List Run) → Bool
+rowsRight rows = sameAnswer (begun .answer) (record { status = 0; value = 0; key = 0; elected = 0 }) && every (every right) rows
+
+-- "P1: task 0 STARTs 2: elected 2. STARTing 1 instead: elected 0."
+abbrev P1 : List Run
+P1 = run (says 0 START 2 0 0 0 2 ∷ []) ∷ run (says 0 START 1 0 0 0 0 ∷ []) ∷ []
+
+-- "P2: ENTER 0, START 2: elected 0; EXIT 0: elected 2."
+abbrev P2 : List Run
+P2 = run (says 0 ENTER 0 0 0 0 0 ∷ says 0 START 2 0 0 0 0 ∷ says 0 EXIT 0 0 0 0 2 ∷ []) ∷ []
+
+-- "P3: WAIT list 3 all: status 1, elected 255. Outside SIGNAL 0 to task 0: still 255; SIGNAL 1: elected 0, events 3.
+-- With any, the first signal elects 0."
+abbrev P3 : List Run
+P3 =
+    endsWith 0 3 (says 0 WAIT 3 0 0 1 nobody ∷ says outside SIGNAL 0 0 0 0 nobody ∷ says outside SIGNAL 1 0 0 0 0 ∷ [])
+    ∷ run (says 0 WAIT 3 1 0 1 nobody ∷ says outside SIGNAL 0 0 0 0 0 ∷ [])
+    ∷ []
+
+-- "P4: SEND (11, 3), (12, 9): 0; (13, 3): 17. RETRIEVE 16: 12, key 9. RETRIEVE 3: 11. Again: 18."
+abbrev P4 : List Run
+P4 =
+    run
+    (says 0 SEND 0 11 3 0 0
+    ∷ says 0 SEND 0 12 9 0 0
+    ∷ says 0 SEND 0 13 3 17 0
+    ∷ gives 0 RETRIEVE 0 0 16 0 12 9 0
+    ∷ gives 0 RETRIEVE 0 0 3 0 11 3 0
+    ∷ says 0 RETRIEVE 0 0 3 18 0
+    ∷ [])
+    ∷ []
+
+-- "P5: caller 1 with operation 10: 11; with operation 6: 12. Outside START: 13."
+abbrev P5 : List Run
+P5 =
+    run (says 1 10 0 0 0 11 0 ∷ [])
+    ∷ run (says 1 ENTER 0 0 0 12 0 ∷ [])
+    ∷ run (says outside START 1 0 0 13 0 ∷ [])
+    ∷ []
+
+-- ---- "Order matters, own call first against outside SIGNAL of event 0 first."
+
+-- "PO1: START 1, signal to 1: signal's status 0 or 15."
+abbrev PO1 : List Run
+PO1 =
+    run (says 0 START 1 0 0 0 0 ∷ says outside SIGNAL 0 1 0 0 0 ∷ [])
+    ∷ run (says outside SIGNAL 0 1 0 15 0 ∷ says 0 START 1 0 0 0 0 ∷ [])
+    ∷ []
+
+-- "PO2: after START 1, STOP 1, signal to 1: 15 or 0."
+abbrev PO2 : List Run
+PO2 =
+    run (says 0 START 1 0 0 0 0 ∷ says 0 STOP 1 0 0 0 0 ∷ says outside SIGNAL 0 1 0 15 0 ∷ [])
+    ∷ run (says 0 START 1 0 0 0 0 ∷ says outside SIGNAL 0 1 0 0 0 ∷ says 0 STOP 1 0 0 0 0 ∷ [])
+    ∷ []
+
+-- "PO3: END, signal to 0: 15 or 0."
+abbrev PO3 : List Run
+PO3 =
+    run (says 0 END 0 0 0 0 nobody ∷ says outside SIGNAL 0 0 0 15 nobody ∷ [])
+    ∷ run (says outside SIGNAL 0 0 0 0 0 ∷ says 0 END 0 0 0 0 nobody ∷ [])
+    ∷ []
+
+-- "PO4: WAIT 1 all, signal to 0: WAIT's status 1 or 0."
+abbrev PO4 : List Run
+PO4 =
+    run (says 0 WAIT 1 0 0 1 nobody ∷ says outside SIGNAL 0 0 0 0 0 ∷ [])
+    ∷ run (says outside SIGNAL 0 0 0 0 0 ∷ says 0 WAIT 1 0 0 0 0 ∷ [])
+    ∷ []
+
+-- "PO5: CLEAR 1, signal to 0: events 1 or 0."
+abbrev PO5 : List Run
+PO5 =
+    endsWith 0 1 (says 0 CLEAR 1 0 0 0 0 ∷ says outside SIGNAL 0 0 0 0 0 ∷ [])
+    ∷ endsWith 0 0 (says outside SIGNAL 0 0 0 0 0 ∷ says 0 CLEAR 1 0 0 0 0 ∷ [])
+    ∷ []
+
+abbrev rows : List (List Run)
+rows = P1 ∷ P2 ∷ P3 ∷ P4 ∷ P5 ∷ PO1 ∷ PO2 ∷ PO3 ∷ PO4 ∷ PO5 ∷ []
+
+-- the one claim: antt computes every run of every row
+pub tenRows : rowsRight rows ≡ true
+unfolding rowsRight right begun rightFrom sameAnswer sameEvents all every below padded met arrive cleared woken signalled waited held pairs front behind laid largest before place without smallest lowest bestReady election queueOf shaped countsInRange prioritiesInRange boundsInRange listsInRange operatorsInRange holdersInRange criteriaInRange zeroRow zeroPastCounts zeroPastLengths restRight statesRight oneHolder holderReady holderElected lengthsRight electedRight valid configurationInRange freshTable fresh missing wrongState leaves reasons refusal effect step
+tenRows = refl

@@ -1,0 +1,399 @@
+-- Validity by subject: the rules of the list gathered by what they speak of, tasks, regions, queues, as a check goes through them.
+use Prim.Native.Nat.{ℕ, zero, suc, _-_, _<_, _≤_}
+use mathlib.Core.Path.{_≡_, refl, sym, ap, _∙_}
+use mathlib.Core.Logic.{_≢_, ⊎-elim}
+use mathlib.Core.Bool.{Bool, true, false, cond, not, _&&_, _||_, false≢true}
+use mathlib.Core.List.{List, [], _∷_}
+use native.Mathlib.Omega.{arith}
+use lib.Dec.{ltb, eqb, leb}
+use lib.ListN.{getD, length, List·getD-eq-default}
+use borrow.Author.Tests.{eqb-true, eq-eqb, ltb-true, ltb-false, leb-true, leb-false, lt-ltb, le-ltb, le-leb, not-true, not-false}
+use Rattle.rules.specs.declared.Task.{Task}
+use Rattle.rules.specs.declared.Table.{Table}
+use Rattle.rules.specs.Numbers.{taskRoom, priorityEnd, listEnd, regionRoom, queueRoom, places, storeSize}
+use Rattle.rules.specs.Words.{isZero, all, every, below, within, past}
+use Rattle.rules.specs.Events.{met}
+use Rattle.rules.specs.Tasks.{noTask, waiting, isReady, isWaiting}
+use Rattle.rules.specs.Regions.{held, occupied, holderOf}
+use Rattle.rules.specs.Queues.{behind}
+use Rattle.rules.specs.Election.{election}
+use Rattle.rules.specs.Tables.{taskOf, lengthOf, boundOf}
+use Rattle.rules.specs.Validity.{shaped, countsInRange, prioritiesInRange, boundInRange, boundsInRange, listsInRange, operatorsInRange, holdersInRange, criterionInRange, criteriaInRange, zeroRow, zeroPastCounts, zeroPastLengths, restRight, rowState, statesRight, oneHolder, holderReady, holderElected, lengthsRight, electedRight, valid}
+use Rattle.rules.proofs.Bools.{given, shown, and-left, and-right, both, or-cases, or-first, or-second, same-test}
+use Rattle.rules.proofs.Counts.{below-at, below-all, within-at, within-all, past-at, past-all}
+
+-- ---- the list, rule by rule
+
+pub record Rules (t : Table) : Type 0 where
+  pub shape : shaped t ≡ true
+  pub counts : countsInRange (t .tasks) (t .regions) (t .queues) ≡ true
+  pub priorities : prioritiesInRange (t .tasks) (t .task) ≡ true
+  pub bounds : boundsInRange (t .queues) (t .bound) ≡ true
+  pub lists : listsInRange (t .tasks) (t .task) ≡ true
+  pub operators : operatorsInRange (t .tasks) (t .task) ≡ true
+  pub holders : holdersInRange (t .tasks) (t .regions) (t .holder) ≡ true
+  pub criteria : criteriaInRange (t .criterion) ≡ true
+  pub past-counts : zeroPastCounts t ≡ true
+  pub past-lengths : zeroPastLengths (t .length) (t .element) (t .criterion) ≡ true
+  pub rest : restRight (t .tasks) (t .task) ≡ true
+  pub states : statesRight (t .tasks) (t .task) ≡ true
+  pub one-holder : oneHolder (t .regions) (t .holder) ≡ true
+  pub holder-ready : holderReady (t .task) (t .holder) ≡ true
+  pub holder-elected : holderElected (t .elected) (t .holder) ≡ true
+  pub lengths : lengthsRight (t .queues) (t .bound) (t .length) ≡ true
+  pub elected : electedRight (t .elected) (t .task) (t .holder) ≡ true
+
+rules-of : (t : Table) → valid t ≡ true → Rules t
+unfolding valid
+rules-of t v =
+    let (a, (b, (c, (d, (e, (f, (g, (h, (i, (j, (k, (l, (m, (n, (o, (p, (q, r))))))))))))))))) = given _ v in
+    record {
+      shape = a;
+      counts = b;
+      priorities = c;
+      bounds = d;
+      lists = e;
+      operators = f;
+      holders = g;
+      criteria = h;
+      past-counts = i;
+      past-lengths = j;
+      rest = k;
+      states = l;
+      one-holder = m;
+      holder-ready = n;
+      holder-elected = o;
+      lengths = p;
+      elected = q;
+    }
+
+valid-of : (t : Table) → Rules t → valid t ≡ true
+unfolding valid
+valid-of t r =
+    shown _ (
+      r .shape,
+      (
+        r .counts,
+        (
+          r .priorities,
+          (
+            r .bounds,
+            (
+              r .lists,
+              (
+                r .operators,
+                (
+                  r .holders,
+                  (
+                    r .criteria,
+                    (
+                      r .past-counts,
+                      (r .past-lengths, (r .rest, (r .states, (r .one-holder, (r .holder-ready, (r .holder-elected, (r .lengths, (r .elected, tt)))))))),
+                    ),
+                  ),
+                ),
+              ),
+            ),
+          ),
+        ),
+      ),
+    )
+
+-- ---- by subject
+
+-- a task below the count
+unfoldable pub rowRight : Task → Bool
+rowRight r =
+    all (ltb (r .priority) priorityEnd
+    ∷ ltb (r .arrived) listEnd
+    ∷ ltb (r .list) listEnd
+    ∷ leb (r .operator) 1
+    ∷ (isWaiting r || (isZero (r .list) && isZero (r .operator)))
+    ∷ rowState r
+    ∷ [])
+
+-- row i of a table with so many tasks
+unfoldable pub rowFits : ℕ → ℕ → Task → Bool
+rowFits tasks i r = cond (ltb i tasks) (rowRight r) (zeroRow r)
+
+unfoldable pub tasksRight : ℕ → List Task → Bool
+tasksRight tasks rows = below taskRoom (λ i. rowFits tasks i (getD rows i noTask))
+
+-- region i of a table with so many, where h is its entry and v the occupied ones'
+unfoldable pub regionFits : ℕ → ℕ → ℕ → ℕ → Bool
+regionFits regions v i h = isZero h || (ltb i regions && eqb h v)
+
+unfoldable pub regionsRight : ℕ → List ℕ → Bool
+regionsRight regions holders = below regionRoom (λ i. regionFits regions (held holders) i (getD holders i 0))
+
+-- the holder, if there is one, is a task that is ready
+unfoldable pub holderRight : ℕ → List Task → ℕ → Bool
+holderRight tasks rows v = isZero v || (leb v tasks && isReady (getD rows (v - 1) noTask))
+
+-- bound and length of queue q of a table with so many queues
+unfoldable pub boundFits : ℕ → ℕ → ℕ → ℕ → Bool
+boundFits queues q bound n = cond (ltb q queues) (boundInRange bound && leb n bound) (isZero bound && isZero n)
+
+unfoldable pub queueRight : ℕ → ℕ → ℕ → ℕ → List ℕ → List ℕ → Bool
+queueRight queues q bound n es cs = boundFits queues q bound n && (every isZero (behind q n es) && every isZero (behind q n cs))
+
+unfoldable pub queuesRight : ℕ → List ℕ → List ℕ → List ℕ → List ℕ → Bool
+queuesRight queues bounds lengths es cs = below queueRoom (λ q. queueRight queues q (getD bounds q 0) (getD lengths q 0) es cs)
+
+-- what a valid table has, by subject
+pub record Parts (t : Table) : Type 0 where
+  pub shape : shaped t ≡ true
+  pub counts : countsInRange (t .tasks) (t .regions) (t .queues) ≡ true
+  pub tasks : tasksRight (t .tasks) (t .task) ≡ true
+  pub regions : regionsRight (t .regions) (t .holder) ≡ true
+  pub holder : holderRight (t .tasks) (t .task) (held (t .holder)) ≡ true
+  pub queues : queuesRight (t .queues) (t .bound) (t .length) (t .element) (t .criterion) ≡ true
+  pub criteria : criteriaInRange (t .criterion) ≡ true
+  pub elected : t .elected ≡ election (t .task) (t .holder)
+
+-- ---- the same as the list says
+
+module _ (t : Table) (r : Rules t) where
+  tasks-gathered : tasksRight (t .tasks) (t .task) ≡ true
+  unfolding tasksRight rowFits rowRight prioritiesInRange listsInRange operatorsInRange restRight statesRight zeroPastCounts
+  tasks-gathered = below-all _ taskRoom (λ i k. go i k (ltb i (t .tasks)) refl)
+    where
+      go : (i : ℕ) → i < taskRoom → (b : Bool) → ltb i (t .tasks) ≡ b
+          → cond (ltb i (t .tasks)) (rowRight (taskOf t i)) (zeroRow (taskOf t i)) ≡ true
+      go i k true e =
+          let l = ltb-true i (t .tasks) e in
+          let lists = within-at _ _ _ i (r .lists) l k in
+          rw e
+          (shown _ (
+            within-at _ _ _ i (r .priorities) l k,
+            (
+              and-left _ _ lists,
+              (
+                and-right (ltb (taskOf t i .arrived) listEnd) _ lists,
+                (
+                  within-at _ _ _ i (r .operators) l k,
+                  (
+                    within-at _ _ _ i (r .rest) l k,
+                    (within-at _ _ _ i (r .states) l k, tt),
+                  ),
+                ),
+              ),
+            ),
+          ))
+      go i k false e = rw e (past-at _ _ _ i (given _ (r .past-counts) .0) (ltb-false i (t .tasks) e) k)
+
+  regions-gathered : regionsRight (t .regions) (t .holder) ≡ true
+  unfolding regionsRight regionFits oneHolder zeroPastCounts
+  regions-gathered = below-all _ regionRoom (λ i k. go i k (ltb i (t .regions)) refl)
+    where
+      go : (i : ℕ) → i < regionRoom → (b : Bool) → ltb i (t .regions) ≡ b
+          → (isZero (getD (t .holder) i 0) || (ltb i (t .regions) && eqb (getD (t .holder) i 0) (held (t .holder)))) ≡ true
+      go i k true e = rw e (within-at _ _ _ i (r .one-holder) (ltb-true i (t .regions) e) k)
+      go i k false e = or-first _ _ (past-at _ _ _ i (given _ (r .past-counts) .1 .0) (ltb-false i (t .regions) e) k)
+
+  queues-gathered : queuesRight (t .queues) (t .bound) (t .length) (t .element) (t .criterion) ≡ true
+  unfolding queuesRight queueRight boundFits boundsInRange lengthsRight zeroPastCounts zeroPastLengths
+  queues-gathered = below-all _ queueRoom (λ q k. both (go q k (ltb q (t .queues)) refl) (below-at _ queueRoom q (r .past-lengths) k))
+    where
+      go : (q : ℕ) → q < queueRoom → (b : Bool) → ltb q (t .queues) ≡ b
+          → cond (ltb q (t .queues)) (boundInRange (boundOf t q) && leb (lengthOf t q) (boundOf t q)) (isZero (boundOf t q) && isZero (lengthOf t q)) ≡ true
+      go q k true e =
+          let l = ltb-true q (t .queues) e in
+          rw e (both (within-at _ _ _ q (r .bounds) l k) (within-at _ _ _ q (r .lengths) l k))
+      go q k false e =
+          let l = ltb-false q (t .queues) e in
+          let past = given _ (r .past-counts) in
+          rw e (both (past-at _ _ _ q (past .1 .1 .0) l k) (past-at _ _ _ q (past .1 .1 .1 .0) l k))
+
+-- ---- what the tasks' part says of one task
+
+module _ (tasks : ℕ) (rows : List Task) (right : tasksRight tasks rows ≡ true) where
+  -- below the count, the row is right; past it, zero
+  pub row-right : (i : ℕ) → i < tasks → i < taskRoom → rowRight (getD rows i noTask) ≡ true
+  unfolding tasksRight rowFits
+  row-right i l k = simp (lt-ltb i tasks l) at (below-at _ taskRoom i right k)
+
+  pub row-zero : (i : ℕ) → tasks ≤ i → i < taskRoom → zeroRow (getD rows i noTask) ≡ true
+  unfolding tasksRight rowFits
+  row-zero i l k = simp (le-ltb i tasks l) at (below-at _ taskRoom i right k)
+
+  -- a ready task is below the count
+  pub ready-below : length rows ≡ taskRoom → (i : ℕ) → isReady (getD rows i noTask) ≡ true → i < tasks
+  unfolding zeroRow
+  ready-below long i h = go (ltb i tasks) (ltb i taskRoom) refl refl
+    where
+      go : (b c : Bool) → ltb i tasks ≡ b → ltb i taskRoom ≡ c → i < tasks
+      go true c e f = ltb-true i tasks e
+      go false true e f =
+          let zero-state : getD rows i noTask .state ≡ 0 = eqb-true _ 0 (given _ (row-zero i (ltb-false i tasks e) (ltb-true i taskRoom f)) .1 .0) in
+          absurd (false≢true (rw zero-state at h))
+      go false false e f =
+          let past : getD rows i noTask ≡ noTask = List·getD-eq-default rows noTask (rw long (ltb-false i taskRoom f)) in
+          absurd (false≢true (rw past at h))
+
+-- ---- and back
+
+task-length : (t : Table) → shaped t ≡ true → length (t .task) ≡ taskRoom
+unfolding shaped
+task-length t s = eqb-true _ _ (given _ s .0)
+
+pub parts-of : (t : Table) → valid t ≡ true → Parts t
+unfolding electedRight holderRight holderReady
+parts-of t v =
+    let r = rules-of t v in
+    record {
+      shape = r .shape;
+      counts = r .counts;
+      tasks = tasks-gathered t r;
+      regions = regions-gathered t r;
+      holder = go (isZero (held (t .holder))) refl;
+      queues = queues-gathered t r;
+      criteria = r .criteria;
+      elected = eqb-true _ _ (r .elected);
+    }
+  where
+    go : (b : Bool) → isZero (held (t .holder)) ≡ b
+        → (isZero (held (t .holder)) || (leb (held (t .holder)) (t .tasks) && isReady (taskOf t (holderOf (t .holder))))) ≡ true
+    go true e = rw e refl
+    go false e =
+        let r = rules-of t v in
+        let h : isReady (taskOf t (holderOf (t .holder))) ≡ true = simp e at (r .holder-ready) in
+        let l = ready-below (t .tasks) (t .task) (tasks-gathered t r) (task-length t (r .shape)) (holderOf (t .holder)) h in
+        rw e (both (le-leb (held (t .holder)) (t .tasks) (omega arith)) h)
+
+module _ (t : Table) (p : Parts t) where
+  right : (i : ℕ) → i < t .tasks → i < taskRoom → rowRight (taskOf t i) ≡ true
+  right = row-right (t .tasks) (t .task) (p .tasks)
+
+  region-fits : (i : ℕ) → i < regionRoom → regionFits (t .regions) (held (t .holder)) i (getD (t .holder) i 0) ≡ true
+  unfolding regionsRight
+  region-fits i k = below-at _ regionRoom i (p .regions) k
+
+  queue-fits : (q : ℕ) → q < queueRoom → queueRight (t .queues) q (boundOf t q) (lengthOf t q) (t .element) (t .criterion) ≡ true
+  unfolding queuesRight
+  queue-fits q k = below-at _ queueRoom q (p .queues) k
+
+  bound-fits : (q : ℕ) → q < queueRoom → boundFits (t .queues) q (boundOf t q) (lengthOf t q) ≡ true
+  unfolding queueRight
+  bound-fits q k = and-left _ _ (queue-fits q k)
+
+  -- a queue below the count, and one past it
+  used : (q : ℕ) → q < t .queues → q < queueRoom → (boundInRange (boundOf t q) && leb (lengthOf t q) (boundOf t q)) ≡ true
+  unfolding boundFits
+  used q l k = simp (lt-ltb q (t .queues) l) at (bound-fits q k)
+
+  unused : (q : ℕ) → t .queues ≤ q → q < queueRoom → (isZero (boundOf t q) && isZero (lengthOf t q)) ≡ true
+  unfolding boundFits
+  unused q l k = simp (le-ltb q (t .queues) l) at (bound-fits q k)
+
+  -- every entry is 0 or the occupied ones', which is a task's
+  held-fits : leb (held (t .holder)) (t .tasks) ≡ true
+  unfolding holderRight
+  held-fits =
+      ⊎-elim (λ z. let e = eqb-true (held (t .holder)) 0 z in le-leb (held (t .holder)) (t .tasks) (omega arith)) (λ w. and-left _ _ w)
+      (or-cases (isZero (held (t .holder))) _ (p .holder))
+
+  entry-fits : (i : ℕ) → i < regionRoom → leb (getD (t .holder) i 0) (t .tasks) ≡ true
+  unfolding regionFits
+  entry-fits i k =
+      let h = getD (t .holder) i 0 in
+      ⊎-elim (λ z. let e : h ≡ 0 = eqb-true h 0 z in le-leb h (t .tasks) (omega arith))
+      (λ w. let e : h ≡ held (t .holder) = eqb-true h _ (and-right (ltb i (t .regions)) _ w) in rw e held-fits)
+      (or-cases (isZero h) _ (region-fits i k))
+
+  same-holder : (i : ℕ) → i < regionRoom → (isZero (getD (t .holder) i 0) || eqb (getD (t .holder) i 0) (held (t .holder))) ≡ true
+  unfolding regionFits
+  same-holder i k =
+      let h = getD (t .holder) i 0 in
+      ⊎-elim (λ z. or-first _ _ z) (λ w. or-second (isZero h) _ (and-right (ltb i (t .regions)) _ w)) (or-cases (isZero h) _ (region-fits i k))
+
+  free-past : (i : ℕ) → t .regions ≤ i → i < regionRoom → isZero (getD (t .holder) i 0) ≡ true
+  unfolding regionFits
+  free-past i l k =
+      let h = getD (t .holder) i 0 in
+      ⊎-elim (λ z. z) (λ w. absurd (false≢true (sym (le-ltb i (t .regions) l) ∙ and-left _ _ w))) (or-cases (isZero h) _ (region-fits i k))
+
+  holder-is-ready : holderReady (t .task) (t .holder) ≡ true
+  unfolding holderReady holderRight
+  holder-is-ready =
+      ⊎-elim (λ z. rw z refl) (λ w. or-second (not (occupied (t .holder))) _ (and-right (leb (held (t .holder)) (t .tasks)) _ w))
+      (or-cases (isZero (held (t .holder))) _ (p .holder))
+
+  holder-is-elected : holderElected (t .elected) (t .holder) ≡ true
+  unfolding holderElected election
+  holder-is-elected = go (occupied (t .holder)) refl
+    where
+      go : (b : Bool) → occupied (t .holder) ≡ b → (not (occupied (t .holder)) || eqb (t .elected) (holderOf (t .holder))) ≡ true
+      go true e = rw e (eq-eqb _ _ (p .elected ∙ rw e refl))
+      go false e = rw e refl
+
+  rules-gathered : Rules t
+  unfolding prioritiesInRange boundsInRange listsInRange operatorsInRange holdersInRange zeroPastCounts zeroPastLengths restRight statesRight oneHolder lengthsRight electedRight rowRight queueRight
+  rules-gathered =
+      record {
+        shape = p .shape;
+        counts = p .counts;
+        priorities = within-all _ _ _ (λ i l k. given _ (right i l k) .0);
+        bounds = within-all _ _ _ (λ q l k. and-left _ _ (used q l k));
+        lists = within-all _ _ _ (λ i l k. both (given _ (right i l k) .1 .0) (given _ (right i l k) .1 .1 .0));
+        operators = within-all _ _ _ (λ i l k. given _ (right i l k) .1 .1 .1 .0);
+        holders = within-all _ _ _ (λ i l k. entry-fits i k);
+        criteria = p .criteria;
+        past-counts =
+            shown _ (
+              past-all _ _ _ (row-zero (t .tasks) (t .task) (p .tasks)),
+              (
+                past-all _ _ _ free-past,
+                (
+                  past-all _ _ _ (λ q l k. and-left _ _ (unused q l k)),
+                  (past-all _ _ _ (λ q l k. and-right (isZero (boundOf t q)) _ (unused q l k)), tt),
+                ),
+              ),
+            );
+        past-lengths = below-all _ queueRoom (λ q k. and-right (boundFits (t .queues) q (boundOf t q) (lengthOf t q)) _ (queue-fits q k));
+        rest = within-all _ _ _ (λ i l k. given _ (right i l k) .1 .1 .1 .1 .0);
+        states = within-all _ _ _ (λ i l k. given _ (right i l k) .1 .1 .1 .1 .1 .0);
+        one-holder = within-all _ _ _ (λ i l k. same-holder i k);
+        holder-ready = holder-is-ready;
+        holder-elected = holder-is-elected;
+        lengths = within-all _ _ _ (λ q l k. and-right (boundInRange (boundOf t q)) _ (used q l k));
+        elected = eq-eqb _ _ (p .elected);
+      }
+
+pub valid-parts : (t : Table) → Parts t → valid t ≡ true
+valid-parts t p = valid-of t (rules-gathered t p)
+
+-- the check: what a table of the right shape has to pass
+abbrev pub checks : Table → List Bool
+checks t =
+    countsInRange (t .tasks) (t .regions) (t .queues)
+    ∷ tasksRight (t .tasks) (t .task)
+    ∷ regionsRight (t .regions) (t .holder)
+    ∷ holderRight (t .tasks) (t .task) (held (t .holder))
+    ∷ queuesRight (t .queues) (t .bound) (t .length) (t .element) (t .criterion)
+    ∷ criteriaInRange (t .criterion)
+    ∷ eqb (t .elected) (election (t .task) (t .holder))
+    ∷ []
+
+pub valid-is : (t : Table) → shaped t ≡ true → valid t ≡ all (checks t)
+valid-is t s =
+    same-test (valid t) (all (checks t))
+    (λ v.
+    let p = parts-of t v in
+    shown (checks t) (p .counts, (p .tasks, (p .regions, (p .holder, (p .queues, (p .criteria, (eq-eqb _ _ (p .elected), tt))))))))
+    (λ h.
+    let (a, (b, (c, (d, (e, (f, (g, i))))))) = given (checks t) h in
+    valid-parts t
+    (record { shape = s; counts = a; tasks = b; regions = c; holder = d; queues = e; criteria = f; elected = eqb-true _ _ g }))
+
+-- ---- a law for the class: in a valid table no task waits with its condition met
+
+pub waits-unmet : (t : Table) → valid t ≡ true → (i : ℕ) → i < t .tasks → isWaiting (taskOf t i) ≡ true
+    → met (taskOf t i .operator) (taskOf t i .list) (taskOf t i .arrived) ≡ false
+unfolding countsInRange rowRight
+waits-unmet t v i l w =
+    let p = parts-of t v in
+    let k : i < taskRoom = omega (arith, leb-true (t .tasks) taskRoom (given _ (p .counts) .1 .0)) in
+    let two : taskOf t i .state ≡ waiting = eqb-true _ waiting w in
+    let state = given _ (row-right (t .tasks) (t .task) (p .tasks) i l k) .1 .1 .1 .1 .1 .0 in
+    not-true _ (and-right (not (isZero (taskOf t i .list))) _ (rw two at state))

@@ -1,0 +1,66 @@
+-- A fresh table: "from a configuration: counts, priorities, bounds".
+use Prim.Native.Nat.{ℕ}
+use mathlib.Core.Bool.{Bool, cond}
+use mathlib.Core.List.{List, [], _∷_, map}
+use lib.Dec.{ltb, leb}
+use lib.ListN.{length, take, replicate}
+use Rattle.rules.specs.declared.Task.{Task}
+use Rattle.rules.specs.declared.Table.{Table}
+use Rattle.rules.specs.declared.Done.{Done}
+use Rattle.rules.specs.Numbers.{taskRoom, priorityEnd, regionRoom, queueRoom, storeSize}
+use Rattle.rules.specs.Words.{all, every, padded, altered}
+use Rattle.rules.specs.Tasks.{noTask, stopped, asStarted}
+use Rattle.rules.specs.Validity.{countsInRange, boundInRange}
+use Rattle.rules.specs.Answers.{done, refused}
+
+-- the counts; "a list shorter than its count is out of range"; the priorities and bounds. "Entries past a count aren't read."
+unfoldable pub configurationInRange : ℕ → ℕ → ℕ → List ℕ → List ℕ → Bool
+configurationInRange tasks regions queues priorities bounds =
+    all (countsInRange tasks regions queues
+    ∷ leb tasks (length priorities)
+    ∷ leb queues (length bounds)
+    ∷ every (λ p. ltb p priorityEnd) (take tasks priorities)
+    ∷ every boundInRange (take queues bounds)
+    ∷ [])
+
+abbrev pub newTask : ℕ → Task
+newTask priority = record { priority = priority; state = stopped; arrived = 0; list = 0; operator = 0 }
+
+-- "Task 0 is ready and elected, the others stopped, no event arrived, regions free, queues empty."
+unfoldable pub freshTable : ℕ → ℕ → ℕ → List ℕ → List ℕ → Table
+freshTable tasks regions queues priorities bounds =
+    record {
+      tasks = tasks;
+      regions = regions;
+      queues = queues;
+      elected = 0;
+      task = padded taskRoom noTask (altered 0 asStarted (map newTask (take tasks priorities)));
+      holder = replicate regionRoom 0;
+      bound = padded queueRoom 0 (take queues bounds);
+      length = replicate queueRoom 0;
+      element = replicate storeSize 0;
+      criterion = replicate storeSize 0;
+    }
+
+-- "a table of zeros, which is not valid"
+unfoldable pub zeroTable : Table
+zeroTable =
+    record {
+      tasks = 0;
+      regions = 0;
+      queues = 0;
+      elected = 0;
+      task = replicate taskRoom noTask;
+      holder = replicate regionRoom 0;
+      bound = replicate queueRoom 0;
+      length = replicate queueRoom 0;
+      element = replicate storeSize 0;
+      criterion = replicate storeSize 0;
+    }
+
+-- "A configuration out of range is refused with 20 and gives a table of zeros"
+unfoldable pub fresh : ℕ → ℕ → ℕ → List ℕ → List ℕ → Done
+fresh tasks regions queues priorities bounds =
+    cond (configurationInRange tasks regions queues priorities bounds)
+    (done (freshTable tasks regions queues priorities bounds) 0 0 0)
+    (refused zeroTable 20)

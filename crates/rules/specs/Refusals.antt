@@ -1,0 +1,117 @@
+-- The refusals: "Checks go in this order; the first that applies is given, and none is given otherwise."
+use Prim.Native.Nat.{ℕ}
+use mathlib.Core.Bool.{Bool, false, true, not, _&&_, _||_}
+use mathlib.Core.List.{List, [], _∷_}
+use lib.Dec.{ltb, eqb, leb}
+use lib.ListN.{getD, length}
+use Rattle.rules.specs.declared.Task.{Task}
+use Rattle.rules.specs.declared.Table.{Table}
+use Rattle.rules.specs.declared.Call.{Call}
+use Rattle.rules.specs.Numbers.{eventEnd, criterionEnd, largestPresent, outside, SIGNAL, WAIT, SEND, RETRIEVE}
+use Rattle.rules.specs.Words.{isZero, byOperation, Reason, when, first}
+use Rattle.rules.specs.Tasks.{noTask, isStopped}
+use Rattle.rules.specs.Regions.{occupied}
+use Rattle.rules.specs.Queues.{Pair, noneFits}
+use Rattle.rules.specs.Tables.{boundOf, queueOf}
+use Rattle.rules.specs.Validity.{valid}
+
+-- ---- 13 and 12
+
+-- "caller 255 and the operation isn't SIGNAL"
+abbrev pub outsideBarred : Call → Bool
+outsideBarred c = eqb (c .caller) outside && not (eqb (c .operation) SIGNAL)
+
+-- "caller not 255 and not the elected task"
+abbrev pub notElected : ℕ → ℕ → Bool
+notElected elected caller = not (eqb caller outside) && not (eqb caller elected)
+
+-- ---- 14: "a task, event, region, queue or criterion that doesn't exist; an event list of 0 or above 65535"
+
+-- a number at or past the count: of tasks, events, regions, queues, criteria
+abbrev pub absent : ℕ → ℕ → Bool
+absent count i = not (ltb i count)
+
+abbrev pub badList : ℕ → Bool
+badList list = isZero list || ltb 65535 list
+
+-- RETRIEVE takes 16 too
+abbrev pub badKey : ℕ → Bool
+badKey k = ltb largestPresent k
+
+unfoldable pub missing : ℕ → ℕ → ℕ → Call → Bool
+missing tasks regions queues c =
+    byOperation false (c .operation)
+    -- START, STOP, END
+    (absent tasks (c .a)
+    ∷ absent tasks (c .a)
+    ∷ false
+    -- SIGNAL, WAIT, CLEAR
+    ∷ (absent eventEnd (c .a) || absent tasks (c .b))
+    ∷ badList (c .a)
+    ∷ badList (c .a)
+    -- ENTER, EXIT
+    ∷ absent regions (c .a)
+    ∷ absent regions (c .a)
+    -- SEND, RETRIEVE
+    ∷ (absent queues (c .a) || absent criterionEnd (c .c))
+    ∷ (absent queues (c .a) || badKey (c .c))
+    ∷ [])
+
+-- ---- 19: "operator above 1"
+
+abbrev pub badOperator : ℕ → Bool
+badOperator operator = ltb 1 operator
+
+-- ---- 15: "START of a task not stopped; STOP or SIGNAL of a stopped one"
+
+unfoldable pub wrongState : List Task → Call → Bool
+wrongState rows c =
+    byOperation false (c .operation)
+    -- START, STOP, END, SIGNAL
+    (not (isStopped (getD rows (c .a) noTask))
+    ∷ isStopped (getD rows (c .a) noTask)
+    ∷ false
+    ∷ isStopped (getD rows (c .b) noTask)
+    ∷ [])
+
+-- ---- 16: "WAIT, END or STOP of oneself while any region is occupied, even if the wait would pass"
+
+unfoldable pub leaves : Call → Bool
+leaves c =
+    byOperation false (c .operation)
+    -- START, STOP, END, SIGNAL, WAIT
+    (false ∷ eqb (c .a) (c .caller) ∷ true ∷ false ∷ true ∷ [])
+
+-- ---- the list of a call: the rows of the status table, in its order
+
+unfoldable pub reasons : Table → Call → List Reason
+reasons t c =
+    when 10 (not (valid t))
+    ∷ when 11 (ltb 9 (c .operation))
+    ∷ when 13 (outsideBarred c)
+    ∷ when 12 (notElected (t .elected) (c .caller))
+    ∷ when 14 (missing (t .tasks) (t .regions) (t .queues) c)
+    ∷ when 19 (eqb (c .operation) WAIT && badOperator (c .b))
+    ∷ when 15 (wrongState (t .task) c)
+    ∷ when 16 (leaves c && occupied (t .holder))
+    ∷ when 17 (eqb (c .operation) SEND && leb (boundOf t (c .a)) (length (queueOf t (c .a))))
+    ∷ when 18 (eqb (c .operation) RETRIEVE && noneFits (c .c) (queueOf t (c .a)))
+    ∷ []
+
+-- ---- the lists of the queries: "ARRIVED uses 10, 12, 14, 19, and 12 for caller 255; the other queries have no caller and use 10 and 14"
+
+unfoldable pub arrivedReasons : Table → ℕ → ℕ → ℕ → List Reason
+arrivedReasons t caller list operator =
+    when 10 (not (valid t))
+    ∷ when 12 (eqb caller outside || not (eqb caller (t .elected)))
+    ∷ when 14 (badList list)
+    ∷ when 19 (badOperator operator)
+    ∷ []
+
+-- a query of one object, of which there are so many
+unfoldable pub objectReasons : Table → ℕ → ℕ → List Reason
+objectReasons t count i = when 10 (not (valid t)) ∷ when 14 (absent count i) ∷ []
+
+-- the status of a refused call; 0 where it is accepted
+unfoldable pub refusal : Table → Call → ℕ
+refusal t c = first (reasons t c)

@@ -1,0 +1,151 @@
+-- "A table is valid when all of these hold": one definition for each rule of document 01's list, joined in its order.
+use Prim.Native.Nat.{ℕ, zero, suc, _-_}
+use mathlib.Core.Bool.{Bool, true, false, not, _&&_, _||_}
+use mathlib.Core.List.{List, [], _∷_}
+use lib.Dec.{ltb, eqb, leb}
+use lib.ListN.{getD, length}
+use Rattle.rules.specs.declared.Task.{Task}
+use Rattle.rules.specs.declared.Table.{Table}
+use Rattle.rules.specs.Numbers.{taskRoom, priorityEnd, listEnd, regionRoom, queueRoom, places, storeSize, criterionEnd}
+use Rattle.rules.specs.Words.{isZero, all, every, below, within, past}
+use Rattle.rules.specs.Events.{met}
+use Rattle.rules.specs.Tasks.{noTask, isReady, isWaiting}
+use Rattle.rules.specs.Regions.{held, occupied, holderOf}
+use Rattle.rules.specs.Queues.{behind}
+use Rattle.rules.specs.Election.{election}
+use Rattle.rules.specs.Tables.{taskOf, lengthOf, boundOf}
+
+-- the arrays are as long as their types say: a definition sees an array as a list
+unfoldable pub shaped : Table → Bool
+shaped t =
+    all (eqb (length (t .task)) taskRoom
+    ∷ eqb (length (t .holder)) regionRoom
+    ∷ eqb (length (t .bound)) queueRoom
+    ∷ eqb (length (t .length)) queueRoom
+    ∷ eqb (length (t .element)) storeSize
+    ∷ eqb (length (t .criterion)) storeSize
+    ∷ [])
+
+-- ---- "Counts, priorities, bounds, event lists, operators, holders and stored criteria are in range."
+
+-- "Tasks 1 to 32", "Regions 0 to 16", "Queues 0 to 8"
+unfoldable pub countsInRange : ℕ → ℕ → ℕ → Bool
+countsInRange tasks regions queues =
+    all (ltb 0 tasks ∷ leb tasks taskRoom ∷ leb regions regionRoom ∷ leb queues queueRoom ∷ [])
+
+-- "Priority 0 to 255"
+unfoldable pub prioritiesInRange : ℕ → List Task → Bool
+prioritiesInRange tasks rows = within tasks taskRoom (λ i. ltb (getD rows i noTask .priority) priorityEnd)
+
+-- "a bound of 1 to 64 elements"
+abbrev pub boundInRange : ℕ → Bool
+boundInRange bound = ltb 0 bound && leb bound places
+
+unfoldable pub boundsInRange : ℕ → List ℕ → Bool
+boundsInRange queues bounds = within queues queueRoom (λ q. boundInRange (getD bounds q 0))
+
+-- the arrived events and the list waited for
+unfoldable pub listsInRange : ℕ → List Task → Bool
+listsInRange tasks rows =
+    within tasks taskRoom (λ i. ltb (getD rows i noTask .arrived) listEnd && ltb (getD rows i noTask .list) listEnd)
+
+-- "0 all, 1 any"
+unfoldable pub operatorsInRange : ℕ → List Task → Bool
+operatorsInRange tasks rows = within tasks taskRoom (λ i. leb (getD rows i noTask .operator) 1)
+
+-- free, or a task's number plus 1
+unfoldable pub holdersInRange : ℕ → ℕ → List ℕ → Bool
+holdersInRange tasks regions holders = within regions regionRoom (λ r. leb (getD holders r 0) tasks)
+
+-- "a criterion 0 to 15"
+abbrev pub criterionInRange : ℕ → Bool
+criterionInRange c = ltb c criterionEnd
+
+unfoldable pub criteriaInRange : List ℕ → Bool
+criteriaInRange criteria = every criterionInRange criteria
+
+-- ---- "Everything past a count or past a queue's length is 0."
+
+unfoldable pub zeroRow : Task → Bool
+zeroRow r =
+    all (isZero (r .priority) ∷ isZero (r .state) ∷ isZero (r .arrived) ∷ isZero (r .list) ∷ isZero (r .operator) ∷ [])
+
+unfoldable pub zeroPastCounts : Table → Bool
+zeroPastCounts t =
+    all (past (t .tasks) taskRoom (λ i. zeroRow (taskOf t i))
+    ∷ past (t .regions) regionRoom (λ r. isZero (getD (t .holder) r 0))
+    ∷ past (t .queues) queueRoom (λ q. isZero (boundOf t q))
+    ∷ past (t .queues) queueRoom (λ q. isZero (lengthOf t q))
+    ∷ [])
+
+unfoldable pub zeroPastLengths : List ℕ → List ℕ → List ℕ → Bool
+zeroPastLengths lengths elements criteria =
+    below queueRoom
+    (λ q. every isZero (behind q (getD lengths q 0) elements) && every isZero (behind q (getD lengths q 0) criteria))
+
+-- ---- "Where nothing is waited for, list and operator are 0."
+
+unfoldable pub restRight : ℕ → List Task → Bool
+restRight tasks rows =
+    within tasks taskRoom
+    (λ i.
+    isWaiting (getD rows i noTask) || (isZero (getD rows i noTask .list) && isZero (getD rows i noTask .operator)))
+
+-- ---- "A task is stopped, ready or waiting."
+
+-- "Stopped: no event arrived, nothing waited for. Ready: nothing waited for. Waiting: a list that isn't empty, an operator, and a condition
+-- not yet met." What is not waited for is 0 by the rule above, and an operator is in range by the first.
+abbrev pub stateRight : ℕ → ℕ → ℕ → ℕ → Bool
+stateRight zero arrived list operator = isZero arrived
+stateRight (suc zero) arrived list operator = true
+stateRight (suc (suc zero)) arrived list operator = not (isZero list) && not (met operator list arrived)
+stateRight (suc (suc (suc more))) arrived list operator = false
+
+abbrev pub rowState : Task → Bool
+rowState r = stateRight (r .state) (r .arrived) (r .list) (r .operator)
+
+unfoldable pub statesRight : ℕ → List Task → Bool
+statesRight tasks rows = within tasks taskRoom (λ i. rowState (getD rows i noTask))
+
+-- ---- "A region is free or has one holder. All occupied regions have the same holder, which is ready and is the elected task."
+
+unfoldable pub oneHolder : ℕ → List ℕ → Bool
+oneHolder regions holders =
+    within regions regionRoom (λ r. isZero (getD holders r 0) || eqb (getD holders r 0) (held holders))
+
+unfoldable pub holderReady : List Task → List ℕ → Bool
+holderReady rows holders = not (occupied holders) || isReady (getD rows (holderOf holders) noTask)
+
+unfoldable pub holderElected : ℕ → List ℕ → Bool
+holderElected elected holders = not (occupied holders) || eqb elected (holderOf holders)
+
+-- ---- "No queue is longer than its bound."
+
+unfoldable pub lengthsRight : ℕ → List ℕ → List ℕ → Bool
+lengthsRight queues bounds lengths = within queues queueRoom (λ q. leb (getD lengths q 0) (getD bounds q 0))
+
+-- ---- "The elected task is the right one."
+
+unfoldable pub electedRight : ℕ → List Task → List ℕ → Bool
+electedRight elected rows holders = eqb elected (election rows holders)
+
+unfoldable pub valid : Table → Bool
+valid t =
+    all (shaped t
+    ∷ countsInRange (t .tasks) (t .regions) (t .queues)
+    ∷ prioritiesInRange (t .tasks) (t .task)
+    ∷ boundsInRange (t .queues) (t .bound)
+    ∷ listsInRange (t .tasks) (t .task)
+    ∷ operatorsInRange (t .tasks) (t .task)
+    ∷ holdersInRange (t .tasks) (t .regions) (t .holder)
+    ∷ criteriaInRange (t .criterion)
+    ∷ zeroPastCounts t
+    ∷ zeroPastLengths (t .length) (t .element) (t .criterion)
+    ∷ restRight (t .tasks) (t .task)
+    ∷ statesRight (t .tasks) (t .task)
+    ∷ oneHolder (t .regions) (t .holder)
+    ∷ holderReady (t .task) (t .holder)
+    ∷ holderElected (t .elected) (t .holder)
+    ∷ lengthsRight (t .queues) (t .bound) (t .length)
+    ∷ electedRight (t .elected) (t .task) (t .holder)
+    ∷ [])

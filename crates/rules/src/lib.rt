@@ -1,0 +1,59 @@
+// The things that the rules speak of: tasks, the table, a call and its answer. There is no code here: `specs/` says what each call does.
+
+// How many of each object a table has room for.
+pub const TASKS: usize = 32;
+
+pub const REGIONS: usize = 16;
+
+pub const QUEUES: usize = 8;
+
+// Places of the store for each queue, and for all queues.
+pub const PLACES: usize = 64;
+
+pub const STORE: usize = 512;
+
+// One task. The state is 0 stopped, 1 ready, 2 waiting; bit i of `arrived` and `list` stands for event i.
+pub struct Task {
+    pub priority: u8,
+    pub state: u8,
+    pub arrived: u16,
+    pub list: u16,
+    pub operator: u8,
+}
+
+// The executive's whole state. A region's `holder` is 0 where it is free, else the holder's number plus 1.
+// Queue q has places 64 q to 64 q + 63 of the flat store, oldest element first.
+pub struct Table {
+    pub tasks: u8,
+    pub regions: u8,
+    pub queues: u8,
+    pub elected: u8,
+    pub task: [Task; TASKS],
+    pub holder: [u8; REGIONS],
+    pub bound: [u8; QUEUES],
+    pub length: [u8; QUEUES],
+    pub element: [u32; STORE],
+    pub criterion: [u8; STORE],
+}
+
+// Who calls, what for, and three numbers.
+pub struct Call {
+    pub caller: u8,
+    pub operation: u8,
+    pub a: u32,
+    pub b: u32,
+    pub c: u32,
+}
+
+pub struct Answer {
+    pub status: u8,
+    pub value: u32,
+    pub key: u8,
+    pub elected: u8,
+}
+
+// What a call hands back: the table after it, and the answer.
+pub struct Done {
+    pub table: Table,
+    pub answer: Answer,
+}
