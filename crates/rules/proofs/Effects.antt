@@ -13,7 +13,7 @@ use Rattle.rules.specs.declared.Table.{Table}
 use Rattle.rules.specs.declared.Call.{Call}
 use Rattle.rules.specs.Numbers.{CLEAR, ENTER, EXIT, SEND}
 use Rattle.rules.specs.Words.{byOperation}
-use Rattle.rules.specs.Tables.{settled}
+use Rattle.rules.specs.Tables.{electionOf}
 use Rattle.rules.specs.Effects.{Effect, plain, nothing, operations, effect}
 
 -- ---- by operation
@@ -48,16 +48,35 @@ each-effect t c P each none = go (ltb (c .operation) 10) refl
 never : {X : Type 0} → false ≡ true → X
 never h = absurd (false≢true h)
 
--- counts and bounds, and the elected task until the election
+-- counts, priorities and bounds, and the elected task until the election
 pub record Frame : Type 0 where
   pub tasks : ℕ
   pub regions : ℕ
   pub queues : ℕ
   pub elected : ℕ
+  pub priority : List ℕ
   pub bound : List ℕ
 
 abbrev pub frameOf : Table → Frame
-frameOf t = record { tasks = t .tasks; regions = t .regions; queues = t .queues; elected = t .elected; bound = t .bound }
+frameOf t =
+    record {
+      tasks = t .tasks;
+      regions = t .regions;
+      queues = t .queues;
+      elected = t .elected;
+      priority = t .priority;
+      bound = t .bound;
+    }
+
+-- what a call may change of the tasks
+pub record Columns : Type 0 where
+  pub state : List ℕ
+  pub arrived : List ℕ
+  pub list : List ℕ
+  pub operator : List ℕ
+
+abbrev pub columnsOf : Table → Columns
+columnsOf t = record { state = t .state; arrived = t .arrived; list = t .list; operator = t .operator }
 
 -- what the queues hold
 pub record Contents : Type 0 where
@@ -69,7 +88,7 @@ abbrev pub contentsOf : Table → Contents
 contentsOf t = record { length = t .length; element = t .element; criterion = t .criterion }
 
 module _ (t : Table) (c : Call) where
-  -- no operation changes counts or bounds
+  -- no operation changes counts, priorities or bounds
   pub frame-kept : frameOf (effect t c .table) ≡ frameOf t
   frame-kept =
       each-effect t c (λ n e. frameOf (e .table) ≡ frameOf t)
@@ -77,9 +96,9 @@ module _ (t : Table) (c : Call) where
       (λ n. refl)
 
   -- only the first six change a task
-  pub tasks-kept : ltb CLEAR (c .operation) ≡ true → effect t c .table .task ≡ t .task
-  tasks-kept =
-      each-effect t c (λ n e. ltb CLEAR n ≡ true → e .table .task ≡ t .task)
+  pub columns-kept : ltb CLEAR (c .operation) ≡ true → columnsOf (effect t c .table) ≡ columnsOf t
+  columns-kept =
+      each-effect t c (λ n e. ltb CLEAR n ≡ true → columnsOf (e .table) ≡ columnsOf t)
       (never, (never, (never, (never, (never, (never, (λ h. refl, (λ h. refl, (λ h. refl, (λ h. refl, tt))))))))))
       (λ n h. refl)
 
@@ -98,8 +117,8 @@ module _ (t : Table) (c : Call) where
       (λ n h. refl)
 
   -- an operation that changes neither a task nor a holder changes nothing that the election reads
-  pub election-kept : ltb EXIT (c .operation) ≡ true → settled (effect t c .table) .elected ≡ settled t .elected
+  pub election-kept : ltb EXIT (c .operation) ≡ true → electionOf (effect t c .table) ≡ electionOf t
   election-kept =
-      each-effect t c (λ n e. ltb EXIT n ≡ true → settled (e .table) .elected ≡ settled t .elected)
+      each-effect t c (λ n e. ltb EXIT n ≡ true → electionOf (e .table) ≡ electionOf t)
       (never, (never, (never, (never, (never, (never, (never, (never, (λ h. refl, (λ h. refl, tt))))))))))
       (λ n h. refl)

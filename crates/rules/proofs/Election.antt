@@ -1,170 +1,189 @@
 -- The election in words of every ready task: who wins, that nobody else does, and that it is 255 exactly if none is ready.
-use Prim.Native.Nat.{ℕ, zero, suc, _+_, _-_, _<_, _≤_, min}
-use mathlib.Core.Path.{_≡_, refl, sym, ap, ap₂, _∙_}
+use Prim.Native.Nat.{ℕ, zero, suc, _+_, _<_, _≤_, min}
+use mathlib.Core.Path.{_≡_, refl, sym, ap, _∙_}
 use mathlib.Core.Logic.{_≢_, _↔_, _⊎_, inl, inr, ⊎-elim}
 use mathlib.Core.Bool.{Bool, true, false, cond, _&&_, true≢false, false≢true}
-use mathlib.Core.List.{List, [], _∷_}
+use mathlib.Core.List.{List}
 use native.Mathlib.Omega.{arith}
-use native.Mathlib.Nat.{zero-add}
 use lib.Dec.{eqb, ltb}
-use lib.ListN.{getD, length, List·getD-eq-default}
-use borrow.Author.Tests.{eqb-true, eqb-false, eq-eqb, ltb-true, ltb-false}
-use Rattle.rules.specs.declared.Task.{Task}
-use Rattle.rules.specs.declared.Table.{Table}
-use Rattle.rules.specs.Numbers.{priorityEnd, nobody}
-use Rattle.rules.specs.Tasks.{noTask, isReady}
-use Rattle.rules.specs.Regions.{held, occupied, holderOf}
-use Rattle.rules.specs.Tables.{settled}
-use Rattle.rules.specs.Election.{smallest, lowest, bestReady, election}
+use borrow.Author.Tests.{eqb-true, eqb-false, eq-eqb, ne-eqb, ltb-true, ltb-false}
+use Rattle.rules.specs.Numbers.{taskRoom, priorityEnd, nobody}
+use Rattle.rules.specs.Regions.{occupied, holderOf}
+use Rattle.rules.specs.Election.{smallest, lowest, readyAt, priorityAt, isBest, bestReady, election}
 use Rattle.rules.proofs.Bools.{and-left, and-right, both}
+
+-- ---- the smallest priority number, and the lowest number, over any test and any width
+
+module _ (passes : ℕ → Bool) (priority : ℕ → ℕ) where
+  pub smallest-le : (n i : ℕ) → i < n → passes i ≡ true → smallest n passes priority ≤ priority i
+  unfolding smallest
+  smallest-le zero i l h = absurd (omega arith)
+  smallest-le (suc n) i l h = go (eqb i n) refl (smallest-le n i)
+    where
+      at-most : smallest (suc n) passes priority ≤ smallest n passes priority
+      at-most = step (passes n) refl
+        where
+          step : (b : Bool) → passes n ≡ b → smallest (suc n) passes priority ≤ smallest n passes priority
+          step true e = rw e (omega arith)
+          step false e = rw e (omega arith)
+
+      go : (b : Bool) → eqb i n ≡ b → (i < n → passes i ≡ true → smallest n passes priority ≤ priority i)
+          → smallest (suc n) passes priority ≤ priority i
+      go true e ih = let same = eqb-true i n e in rw (rw same at h, same) (omega arith)
+      go false e ih =
+          let other : i ≢ n = eqb-false i n e in
+          let below = ih (omega arith) h in
+          let less = at-most in
+          omega arith
+
+  -- one that passes has it, unless it is 256
+  pub smallest-had : (n : ℕ)
+      → (smallest n passes priority ≡ priorityEnd)
+      ⊎ ((i : ℕ) × (i < n) × (passes i ≡ true) × (priority i ≡ smallest n passes priority))
+  unfolding smallest
+  smallest-had zero = inl refl
+  smallest-had (suc n) = go (passes n) (ltb (priority n) (smallest n passes priority)) refl refl (smallest-had n)
+    where
+      Had : ℕ → Type 0
+      Had m =
+          (smallest m passes priority ≡ priorityEnd)
+          ⊎ ((i : ℕ) × (i < m) × (passes i ≡ true) × (priority i ≡ smallest m passes priority))
+
+      go : (b c : Bool) → passes n ≡ b → ltb (priority n) (smallest n passes priority) ≡ c → Had n → Had (suc n)
+      go false c e f (inl p) = rw e (inl p)
+      go false c e f (inr q) = rw e (inr (q .0, omega arith, q .2, q .3))
+      go true true e f h = let l = ltb-true (priority n) (smallest n passes priority) f in rw e (inr (n, omega arith, e, omega arith))
+      go true false e f (inl p) = let l = ltb-false (priority n) (smallest n passes priority) f in rw e (inl (omega arith))
+      go true false e f (inr q) =
+          let l = ltb-false (priority n) (smallest n passes priority) f in
+          let same : priority (q .0) ≡ min (priority n) (smallest n passes priority) = q .3 ∙ omega arith in
+          rw e (inr (q .0, omega arith, q .2, same))
+
+-- what the lowest number that passes is
+pub record Lowest (n : ℕ) (passes : ℕ → Bool) : Type 0 where
+  pub below : lowest n passes < n
+  pub passing : passes (lowest n passes) ≡ true
+  pub least : (i : ℕ) → passes i ≡ true → lowest n passes ≤ i
+
+-- as the count goes on: still none, found here, found before
+module _ (passes : ℕ → Bool) (n : ℕ) where
+  pub lowest-none : lowest n passes ≡ nobody → passes n ≡ false → lowest (suc n) passes ≡ nobody
+  unfolding lowest
+  lowest-none e h = simp (e, h)
+
+  pub lowest-here : lowest n passes ≡ nobody → passes n ≡ true → lowest (suc n) passes ≡ n
+  unfolding lowest
+  lowest-here e h = simp (e, h)
+
+  pub lowest-kept : lowest n passes ≢ nobody → lowest (suc n) passes ≡ lowest n passes
+  unfolding lowest
+  lowest-kept h = rw (ne-eqb (lowest n passes) nobody h)
+
+pub lowest-is : (passes : ℕ → Bool) (n : ℕ) → n ≤ nobody
+    → ((lowest n passes ≡ nobody) × ((i : ℕ) → i < n → passes i ≡ false)) ⊎ Lowest n passes
+unfolding lowest
+lowest-is passes zero w = inl (refl, λ i l. absurd (omega arith))
+lowest-is passes (suc n) w = go (passes n) refl (lowest-is passes n (omega arith))
+  where
+    go : (b : Bool) → passes n ≡ b → ((lowest n passes ≡ nobody) × ((i : ℕ) → i < n → passes i ≡ false)) ⊎ Lowest n passes
+        → ((lowest (suc n) passes ≡ nobody) × ((i : ℕ) → i < suc n → passes i ≡ false)) ⊎ Lowest (suc n) passes
+    go b e (inr k) =
+        let same = lowest-kept passes n (let l = k .below in omega arith) in
+        inr (record { below = rw same (let l = k .below in omega arith); passing = rw same (k .passing); least = λ i h. rw same (k .least i h) })
+    go true e (inl k) =
+        let same = lowest-here passes n (k .0) e in
+        inr (record { below = rw same (omega arith); passing = rw same e; least = λ i h. rw same (later i h (ltb i n) refl) })
+      where
+        later : (i : ℕ) → passes i ≡ true → (c : Bool) → ltb i n ≡ c → n ≤ i
+        later i h true f = absurd (false≢true (sym (k .1 i (ltb-true i n f)) ∙ h))
+        later i h false f = ltb-false i n f
+    go false e (inl k) = inl (lowest-none passes n (k .0) e, λ i l. none i l (eqb i n) refl)
+      where
+        none : (i : ℕ) → i < suc n → (c : Bool) → eqb i n ≡ c → passes i ≡ false
+        none i l true f = rw (eqb-true i n f) e
+        none i l false f = let other : i ≢ n = eqb-false i n f in k .1 i (omega arith)
 
 -- ---- the words
 
-abbrev pub Ready : List Task → ℕ → Type 0
-Ready rows i = isReady (getD rows i noTask) ≡ true
-
-abbrev pub priorityAt : List Task → ℕ → ℕ
-priorityAt rows i = getD rows i noTask .priority
+abbrev pub Ready : List ℕ → ℕ → Type 0
+Ready states i = (i < taskRoom) × (readyAt states i ≡ true)
 
 -- "the ready task of smallest priority number, and of equals the lowest task number"
-pub record Wins (rows : List Task) (w : ℕ) : Type 0 where
-  pub ready : Ready rows w
-  pub first : (i : ℕ) → Ready rows i → (priorityAt rows w < priorityAt rows i) ⊎ ((priorityAt rows w ≡ priorityAt rows i) × (w ≤ i))
+pub record Wins (states priorities : List ℕ) (w : ℕ) : Type 0 where
+  pub ready : Ready states w
+  pub first : (i : ℕ) → Ready states i
+      → (priorityAt priorities w < priorityAt priorities i) ⊎ ((priorityAt priorities w ≡ priorityAt priorities i) × (w ≤ i))
 
 -- nobody else wins
-pub wins-alone : (rows : List Task) (v w : ℕ) → Wins rows v → Wins rows w → v ≡ w
-wins-alone rows v w a b =
+pub wins-alone : (states priorities : List ℕ) (v w : ℕ) → Wins states priorities v → Wins states priorities w → v ≡ w
+wins-alone states priorities v w a b =
     ⊎-elim (λ x. ⊎-elim (λ y. omega arith) (λ y. omega arith) (b .first v (a .ready)))
     (λ x. ⊎-elim (λ y. omega arith) (λ y. omega arith) (b .first v (a .ready)))
     (a .first w (b .ready))
 
--- ---- the smallest priority number
+module _ (states priorities : List ℕ) (small : (i : ℕ) → i < taskRoom → priorityAt priorities i < priorityEnd) where
+  least : ℕ
+  least = smallest taskRoom (readyAt states) (priorityAt priorities)
 
-smallest-le : (rows : List Task) (i : ℕ) → Ready rows i → smallest rows ≤ priorityAt rows i
-unfolding smallest
-smallest-le [] i h = absurd (false≢true h)
-smallest-le (r ∷ rows) zero h = rw h (omega arith)
-smallest-le (r ∷ rows) (suc i) h = go (isReady r) refl (smallest-le rows i h)
-  where
-    go : (b : Bool) → isReady r ≡ b → smallest rows ≤ priorityAt rows i → smallest (r ∷ rows) ≤ priorityAt rows i
-    go true e ih = rw e (omega arith)
-    go false e ih = rw e ih
+  -- where a task is ready, a ready task has the smallest priority number
+  had : (i : ℕ) → Ready states i → (k : ℕ) × (k < taskRoom) × (isBest states priorities k ≡ true)
+  unfolding least isBest
+  had i h =
+      ⊎-elim
+      (λ p.
+      let l = smallest-le (readyAt states) (priorityAt priorities) taskRoom i (h .0) (h .1) in
+      let s = small i (h .0) in
+      absurd (omega arith))
+      (λ q. (q .0, q .1, both (q .2) (eq-eqb _ _ (q .3))))
+      (smallest-had (readyAt states) (priorityAt priorities) taskRoom)
 
--- a ready task has it, unless it is 256
-smallest-had : (rows : List Task) → (smallest rows ≡ priorityEnd) ⊎ ((i : ℕ) × (Ready rows i) × (priorityAt rows i ≡ smallest rows))
-unfolding smallest
-smallest-had [] = inl refl
-smallest-had (r ∷ rows) = go (isReady r) (ltb (r .priority) (smallest rows)) refl refl (smallest-had rows)
-  where
-    go : (b c : Bool) → isReady r ≡ b → ltb (r .priority) (smallest rows) ≡ c
-        → (smallest rows ≡ priorityEnd) ⊎ ((i : ℕ) × (Ready rows i) × (priorityAt rows i ≡ smallest rows))
-        → (smallest (r ∷ rows) ≡ priorityEnd) ⊎ ((i : ℕ) × (Ready (r ∷ rows) i) × (priorityAt (r ∷ rows) i ≡ smallest (r ∷ rows)))
-    go false c e f (inl p) = rw e (inl p)
-    go false c e f (inr q) = rw e (inr (suc (q .0), q .1, q .2))
-    go true true e f ih = rw e (inr (0, e, let l = ltb-true (r .priority) (smallest rows) f in omega arith))
-    go true false e f (inl p) = let l = ltb-false (r .priority) (smallest rows) f in rw e (inl (omega arith))
-    go true false e f (inr q) =
-        let l = ltb-false (r .priority) (smallest rows) f in
-        let same : priorityAt rows (q .0) ≡ min (r .priority) (smallest rows) = q .2 ∙ omega arith in
-        rw e (inr (suc (q .0), q .1, same))
+  -- where any task is ready, the best one wins
+  pub best-wins : (i : ℕ) → Ready states i → Wins states priorities (bestReady states priorities)
+  unfolding bestReady isBest least
+  best-wins i h =
+      ⊎-elim (λ q. let k = had i h in absurd (false≢true (sym (q .1 (k .0) (k .1)) ∙ k .2))) wins
+      (lowest-is (isBest states priorities) taskRoom (omega arith))
+    where
+      w : ℕ
+      w = lowest taskRoom (isBest states priorities)
 
--- ---- the lowest number of that priority
+      wins : Lowest taskRoom (isBest states priorities) → Wins states priorities w
+      wins q = record { ready = (q .below, and-left _ _ (q .passing)); first = λ k r. compare k r (eqb (priorityAt priorities k) least) refl }
+        where
+          same : priorityAt priorities w ≡ least
+          same = eqb-true _ _ (and-right (readyAt states w) _ (q .passing))
 
-abbrev Has : ℕ → List Task → ℕ → Bool
-Has p rows i = isReady (getD rows i noTask) && eqb (priorityAt rows i) p
+          compare : (k : ℕ) → Ready states k → (b : Bool) → eqb (priorityAt priorities k) least ≡ b
+              → (priorityAt priorities w < priorityAt priorities k) ⊎ ((priorityAt priorities w ≡ priorityAt priorities k) × (w ≤ k))
+          compare k r true e = inr (same ∙ sym (eqb-true _ _ e), q .least k (both (r .1) e))
+          compare k r false e =
+              let l = smallest-le (readyAt states) (priorityAt priorities) taskRoom k (r .0) (r .1) in
+              let n : priorityAt priorities k ≢ least = eqb-false _ _ e in
+              let s = same in
+              inl (omega arith)
 
-lowest-is : (p k : ℕ) (rows : List Task)
-    → ((lowest p k rows ≡ nobody) × ((i : ℕ) → Has p rows i ≡ false))
-    ⊎ ((j : ℕ) × (lowest p k rows ≡ k + j) × (Has p rows j ≡ true) × ((i : ℕ) → Has p rows i ≡ true → j ≤ i))
-unfolding lowest
-lowest-is p k [] = inl (refl, λ i. refl)
-lowest-is p k (r ∷ rows) = go (isReady r && eqb (r .priority) p) refl (lowest-is p (suc k) rows)
-  where
-    go : (b : Bool) → (isReady r && eqb (r .priority) p) ≡ b
-        → ((lowest p (suc k) rows ≡ nobody) × ((i : ℕ) → Has p rows i ≡ false))
-        ⊎ ((j : ℕ) × (lowest p (suc k) rows ≡ suc k + j) × (Has p rows j ≡ true) × ((i : ℕ) → Has p rows i ≡ true → j ≤ i))
-        → ((lowest p k (r ∷ rows) ≡ nobody) × ((i : ℕ) → Has p (r ∷ rows) i ≡ false))
-        ⊎ ((j : ℕ) × (lowest p k (r ∷ rows) ≡ k + j) × (Has p (r ∷ rows) j ≡ true) × ((i : ℕ) → Has p (r ∷ rows) i ≡ true → j ≤ i))
-    go true e ih = inr (0, rw e (omega arith), e, λ i h. omega arith)
-    go false e (inl q) = inl (rw e (q .0), λ i. later i (q .1))
-      where
-        later : (i : ℕ) → ((i : ℕ) → Has p rows i ≡ false) → Has p (r ∷ rows) i ≡ false
-        later zero f = e
-        later (suc i) f = f i
-    go false e (inr q) = inr (suc (q .0), rw e (q .1 ∙ omega arith), q .2, λ i. later i)
-      where
-        later : (i : ℕ) → Has p (r ∷ rows) i ≡ true → suc (q .0) ≤ i
-        later zero h = absurd (false≢true (sym e ∙ h))
-        later (suc i) h = let l = q .3 i h in omega arith
+  -- "255, exactly if no task is ready"
+  pub best-nobody : (bestReady states priorities ≡ nobody) ↔ ((i : ℕ) → i < taskRoom → readyAt states i ≡ false)
+  unfolding bestReady isBest
+  best-nobody = (λ e i l. none e i l (readyAt states i) refl, nobody-then)
+    where
+      none : lowest taskRoom (isBest states priorities) ≡ nobody → (i : ℕ) → i < taskRoom → (b : Bool) → readyAt states i ≡ b → b ≡ false
+      none e i l true h = let k = best-wins i (l, h) .ready .0 in let k′ : nobody < taskRoom = rw e at k in absurd (omega arith)
+      none e i l false h = refl
 
--- ---- the law
+      nobody-then : ((i : ℕ) → i < taskRoom → readyAt states i ≡ false) → lowest taskRoom (isBest states priorities) ≡ nobody
+      nobody-then h =
+          ⊎-elim (λ q. q .0)
+          (λ q. absurd (false≢true (sym (h _ (q .below)) ∙ and-left _ _ (q .passing))))
+          (lowest-is (isBest states priorities) taskRoom (omega arith))
 
-abbrev pub InRange : List Task → Type 0
-InRange rows = (i : ℕ) → priorityAt rows i < priorityEnd
+-- ---- the holder first, then the best ready task; states, priorities and holders are all that it reads
 
--- where any task is ready, the best one wins
-pub best-wins : (rows : List Task) → InRange rows → (i : ℕ) → Ready rows i → Wins rows (bestReady rows)
-unfolding bestReady
-best-wins rows small i h =
-    go (smallest-had rows) (lowest-is (smallest rows) 0 rows)
-  where
-    at-least : smallest rows < priorityEnd
-    at-least = let l = smallest-le rows i h in let k = small i in omega arith
-
-    go : (smallest rows ≡ priorityEnd) ⊎ ((i : ℕ) × (Ready rows i) × (priorityAt rows i ≡ smallest rows))
-        → ((lowest (smallest rows) 0 rows ≡ nobody) × ((i : ℕ) → Has (smallest rows) rows i ≡ false))
-        ⊎ ((j : ℕ) × (lowest (smallest rows) 0 rows ≡ 0 + j) × (Has (smallest rows) rows j ≡ true) × ((i : ℕ) → Has (smallest rows) rows i ≡ true → j ≤ i))
-        → Wins rows (lowest (smallest rows) 0 rows)
-    go (inl p) q = let l = at-least in absurd (omega arith)
-    go (inr w) (inl q) = absurd (true≢false (sym (both (w .1) (eq-eqb _ _ (w .2))) ∙ q .1 (w .0)))
-    go (inr w) (inr q) = rw (q .1 ∙ zero-add (q .0)) (record { ready = and-left _ _ (q .2); first = first })
-      where
-        winner : priorityAt rows (q .0) ≡ smallest rows
-        winner = eqb-true _ _ (and-right (isReady (getD rows (q .0) noTask)) _ (q .2))
-
-        first : (k : ℕ) → Ready rows k
-            → (priorityAt rows (q .0) < priorityAt rows k) ⊎ ((priorityAt rows (q .0) ≡ priorityAt rows k) × (q .0 ≤ k))
-        first k r = same (eqb (priorityAt rows k) (smallest rows)) refl
-          where
-            same : (b : Bool) → eqb (priorityAt rows k) (smallest rows) ≡ b
-                → (priorityAt rows (q .0) < priorityAt rows k) ⊎ ((priorityAt rows (q .0) ≡ priorityAt rows k) × (q .0 ≤ k))
-            same true e = inr (winner ∙ sym (eqb-true _ _ e), q .3 k (both r e))
-            same false e =
-                let l = smallest-le rows k r in
-                let n : priorityAt rows k ≢ smallest rows = eqb-false _ _ e in
-                let w = winner in
-                inl (omega arith)
-
--- "255, exactly if no task is ready"
-pub best-nobody : (rows : List Task) → InRange rows → length rows ≤ nobody
-    → (bestReady rows ≡ nobody) ↔ ((i : ℕ) → isReady (getD rows i noTask) ≡ false)
-unfolding bestReady
-best-nobody rows small short = (none, nobody-then)
-  where
-    none : bestReady rows ≡ nobody → (i : ℕ) → isReady (getD rows i noTask) ≡ false
-    none e i = go (isReady (getD rows i noTask)) refl
-      where
-        go : (b : Bool) → isReady (getD rows i noTask) ≡ b → b ≡ false
-        go true h =
-            let r = best-wins rows small i h .ready in
-            let past : getD rows nobody noTask ≡ noTask = List·getD-eq-default rows noTask short in
-            absurd (false≢true (rw (e, past) at r))
-        go false h = refl
-
-    nobody-then : ((i : ℕ) → isReady (getD rows i noTask) ≡ false) → bestReady rows ≡ nobody
-    nobody-then h =
-        ⊎-elim (λ q. q .0) (λ q. absurd (false≢true (sym (h (q .0)) ∙ and-left _ _ (q .2)))) (lowest-is (smallest rows) 0 rows)
-
--- ---- the holder first, then the best ready task
-
-pub election-held : (rows : List Task) (holders : List ℕ) → occupied holders ≡ true → election rows holders ≡ holderOf holders
+pub election-held : (states priorities holders : List ℕ) → occupied holders ≡ true → election states priorities holders ≡ holderOf holders
 unfolding election
-election-held rows holders h = rw h
+election-held states priorities holders h = rw h
 
-pub election-free : (rows : List Task) (holders : List ℕ) → occupied holders ≡ false → election rows holders ≡ bestReady rows
+pub election-free : (states priorities holders : List ℕ) → occupied holders ≡ false
+    → election states priorities holders ≡ bestReady states priorities
 unfolding election
-election-free rows holders h = rw h
-
--- it depends on the rows and the holders, and on nothing else
-pub election-same : (t u : Table) → t .task ≡ u .task → t .holder ≡ u .holder → settled t .elected ≡ settled u .elected
-election-same t u p q = ap₂ election p q
+election-free states priorities holders h = rw h

@@ -14,9 +14,9 @@ use Rattle.rules.specs.Events.{met, arrive, cleared}
 use Rattle.rules.specs.Tasks.{woken, signalled, waited}
 use Rattle.rules.specs.Regions.{held}
 use Rattle.rules.specs.Queues.{pairs, front, behind, laid, largest, before, place, without}
-use Rattle.rules.specs.Election.{smallest, lowest, bestReady, election}
+use Rattle.rules.specs.Election.{smallest, lowest, isBest, bestReady, election}
 use Rattle.rules.specs.Tables.{taskOf, queueOf}
-use Rattle.rules.specs.Validity.{shaped, countsInRange, prioritiesInRange, boundsInRange, listsInRange, operatorsInRange, holdersInRange, criteriaInRange, zeroRow, zeroPastCounts, zeroPastLengths, restRight, statesRight, oneHolder, holderReady, holderElected, lengthsRight, electedRight, valid}
+use Rattle.rules.specs.Validity.{shaped, countsInRange, prioritiesInRange, boundsInRange, listsInRange, operatorsInRange, holdersInRange, criteriaInRange, zeroPast, zeroPastCounts, zeroPastLengths, restRight, statesRight, oneHolder, holderReady, holderElected, lengthsRight, electedRight, valid}
 use Rattle.rules.specs.Fresh.{configurationInRange, freshTable, fresh}
 use Rattle.rules.specs.Refusals.{missing, wrongState, leaves, reasons, refusal}
 use Rattle.rules.specs.Effects.{effect}
@@ -159,5 +159,5 @@ rows = P1 ∷ P2 ∷ P3 ∷ P4 ∷ P5 ∷ PO1 ∷ PO2 ∷ PO3 ∷ PO4 ∷ PO5 �
 
 -- the one claim: antt computes every run of every row
 pub tenRows : rowsRight rows ≡ true
-unfolding rowsRight right begun rightFrom sameAnswer sameEvents all every below padded met arrive cleared woken signalled waited held pairs front behind laid largest before place without smallest lowest bestReady election queueOf shaped countsInRange prioritiesInRange boundsInRange listsInRange operatorsInRange holdersInRange criteriaInRange zeroRow zeroPastCounts zeroPastLengths restRight statesRight oneHolder holderReady holderElected lengthsRight electedRight valid configurationInRange freshTable fresh missing wrongState leaves reasons refusal effect step
+unfolding rowsRight right begun rightFrom sameAnswer sameEvents all every below padded met arrive cleared woken signalled waited held pairs front behind laid largest before place without smallest lowest isBest bestReady election queueOf shaped countsInRange prioritiesInRange boundsInRange listsInRange operatorsInRange holdersInRange criteriaInRange zeroPast zeroPastCounts zeroPastLengths restRight statesRight oneHolder holderReady holderElected lengthsRight electedRight valid configurationInRange freshTable fresh missing wrongState leaves reasons refusal effect step
 tenRows = refl

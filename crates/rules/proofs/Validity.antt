@@ -8,18 +8,18 @@ use native.Mathlib.Omega.{arith}
 use lib.Dec.{ltb, eqb, leb}
 use lib.ListN.{getD, length, List·getD-eq-default}
 use borrow.Author.Tests.{eqb-true, eq-eqb, ltb-true, ltb-false, leb-true, leb-false, lt-ltb, le-ltb, le-leb, not-true, not-false}
-use Rattle.rules.specs.declared.Task.{Task}
 use Rattle.rules.specs.declared.Table.{Table}
 use Rattle.rules.specs.Numbers.{taskRoom, priorityEnd, listEnd, regionRoom, queueRoom, places, storeSize}
 use Rattle.rules.specs.Words.{isZero, all, every, below, within, past}
 use Rattle.rules.specs.Events.{met}
-use Rattle.rules.specs.Tasks.{noTask, waiting, isReady, isWaiting}
+use Rattle.rules.specs.Tasks.{waiting, isWaiting}
 use Rattle.rules.specs.Regions.{held, occupied, holderOf}
 use Rattle.rules.specs.Queues.{behind}
-use Rattle.rules.specs.Election.{election}
-use Rattle.rules.specs.Tables.{taskOf, lengthOf, boundOf}
-use Rattle.rules.specs.Validity.{shaped, countsInRange, prioritiesInRange, boundInRange, boundsInRange, listsInRange, operatorsInRange, holdersInRange, criterionInRange, criteriaInRange, zeroRow, zeroPastCounts, zeroPastLengths, restRight, rowState, statesRight, oneHolder, holderReady, holderElected, lengthsRight, electedRight, valid}
+use Rattle.rules.specs.Election.{readyAt, election}
+use Rattle.rules.specs.Tables.{taskOf, lengthOf, boundOf, electionOf}
+use Rattle.rules.specs.Validity.{shaped, countsInRange, prioritiesInRange, boundInRange, boundsInRange, listsInRange, operatorsInRange, holdersInRange, criterionInRange, criteriaInRange, zeroPast, zeroPastCounts, zeroPastLengths, restRight, stateRight, statesRight, oneHolder, holderReady, holderElected, lengthsRight, electedRight, valid}
 use Rattle.rules.proofs.Bools.{given, shown, and-left, and-right, both, or-cases, or-first, or-second, same-test}
+use Rattle.rules.proofs.Queues.{Sound}
 use Rattle.rules.proofs.Counts.{below-at, below-all, within-at, within-all, past-at, past-all}
 
 -- ---- the list, rule by rule
@@ -27,44 +27,46 @@ use Rattle.rules.proofs.Counts.{below-at, below-all, within-at, within-
 pub record Rules (t : Table) : Type 0 where
   pub shape : shaped t ≡ true
   pub counts : countsInRange (t .tasks) (t .regions) (t .queues) ≡ true
-  pub priorities : prioritiesInRange (t .tasks) (t .task) ≡ true
+  pub priorities : prioritiesInRange (t .tasks) (t .priority) ≡ true
   pub bounds : boundsInRange (t .queues) (t .bound) ≡ true
-  pub lists : listsInRange (t .tasks) (t .task) ≡ true
-  pub operators : operatorsInRange (t .tasks) (t .task) ≡ true
+  pub events : listsInRange (t .tasks) (t .arrived) ≡ true
+  pub lists : listsInRange (t .tasks) (t .list) ≡ true
+  pub operators : operatorsInRange (t .tasks) (t .operator) ≡ true
   pub holders : holdersInRange (t .tasks) (t .regions) (t .holder) ≡ true
   pub criteria : criteriaInRange (t .criterion) ≡ true
   pub past-counts : zeroPastCounts t ≡ true
   pub past-lengths : zeroPastLengths (t .length) (t .element) (t .criterion) ≡ true
-  pub rest : restRight (t .tasks) (t .task) ≡ true
-  pub states : statesRight (t .tasks) (t .task) ≡ true
+  pub rest : restRight t ≡ true
+  pub states : statesRight t ≡ true
   pub one-holder : oneHolder (t .regions) (t .holder) ≡ true
-  pub holder-ready : holderReady (t .task) (t .holder) ≡ true
+  pub holder-ready : holderReady (t .state) (t .holder) ≡ true
   pub holder-elected : holderElected (t .elected) (t .holder) ≡ true
   pub lengths : lengthsRight (t .queues) (t .bound) (t .length) ≡ true
-  pub elected : electedRight (t .elected) (t .task) (t .holder) ≡ true
+  pub elected : electedRight t ≡ true
 
 rules-of : (t : Table) → valid t ≡ true → Rules t
 unfolding valid
 rules-of t v =
-    let (a, (b, (c, (d, (e, (f, (g, (h, (i, (j, (k, (l, (m, (n, (o, (p, (q, r))))))))))))))))) = given _ v in
+    let (a, (b, (c, (d, (e, (f, (g, (h, (i, (j, (k, (l, (m, (n, (o, (p, (q, (r, s)))))))))))))))))) = given _ v in
     record {
       shape = a;
       counts = b;
       priorities = c;
       bounds = d;
-      lists = e;
-      operators = f;
-      holders = g;
-      criteria = h;
-      past-counts = i;
-      past-lengths = j;
-      rest = k;
-      states = l;
-      one-holder = m;
-      holder-ready = n;
-      holder-elected = o;
-      lengths = p;
-      elected = q;
+      events = e;
+      lists = f;
+      operators = g;
+      holders = h;
+      criteria = i;
+      past-counts = j;
+      past-lengths = k;
+      rest = l;
+      states = m;
+      one-holder = n;
+      holder-ready = o;
+      holder-elected = p;
+      lengths = q;
+      elected = r;
     }
 
 valid-of : (t : Table) → Rules t → valid t ≡ true
@@ -79,16 +81,37 @@ valid-of t r =
           (
             r .bounds,
             (
-              r .lists,
+              r .events,
               (
-                r .operators,
+                r .lists,
                 (
-                  r .holders,
+                  r .operators,
                   (
-                    r .criteria,
+                    r .holders,
                     (
-                      r .past-counts,
-                      (r .past-lengths, (r .rest, (r .states, (r .one-holder, (r .holder-ready, (r .holder-elected, (r .lengths, (r .elected, tt)))))))),
+                      r .criteria,
+                      (
+                        r .past-counts,
+                        (
+                          r .past-lengths,
+                          (
+                            r .rest,
+                            (
+                              r .states,
+                              (
+                                r .one-holder,
+                                (
+                                  r .holder-ready,
+                                  (
+                                    r .holder-elected,
+                                    (r .lengths, (r .elected, tt)),
+                                  ),
+                                ),
+                              ),
+                            ),
+                          ),
+                        ),
+                      ),
                     ),
                   ),
                 ),
@@ -101,34 +124,42 @@ valid-of t r =
 
 -- ---- by subject
 
--- a task below the count
-unfoldable pub rowRight : Task → Bool
-rowRight r =
-    all (ltb (r .priority) priorityEnd
-    ∷ ltb (r .arrived) listEnd
-    ∷ ltb (r .list) listEnd
-    ∷ leb (r .operator) 1
-    ∷ (isWaiting r || (isZero (r .list) && isZero (r .operator)))
-    ∷ rowState r
+-- a task below the count: its priority and what the columns say of it
+unfoldable pub rowRight : ℕ → ℕ → ℕ → ℕ → ℕ → Bool
+rowRight priority state arrived list operator =
+    all (ltb priority priorityEnd
+    ∷ ltb arrived listEnd
+    ∷ ltb list listEnd
+    ∷ leb operator 1
+    ∷ (eqb state waiting || (isZero list && isZero operator))
+    ∷ stateRight state arrived list operator
     ∷ [])
 
--- row i of a table with so many tasks
-unfoldable pub rowFits : ℕ → ℕ → Task → Bool
-rowFits tasks i r = cond (ltb i tasks) (rowRight r) (zeroRow r)
+-- one past it
+unfoldable pub rowZero : ℕ → ℕ → ℕ → ℕ → ℕ → Bool
+rowZero priority state arrived list operator =
+    all (isZero priority ∷ isZero state ∷ isZero arrived ∷ isZero list ∷ isZero operator ∷ [])
 
-unfoldable pub tasksRight : ℕ → List Task → Bool
-tasksRight tasks rows = below taskRoom (λ i. rowFits tasks i (getD rows i noTask))
+-- task i of a table with so many
+unfoldable pub rowFits : ℕ → ℕ → ℕ → ℕ → ℕ → ℕ → ℕ → Bool
+rowFits tasks i priority state arrived list operator =
+    cond (ltb i tasks) (rowRight priority state arrived list operator) (rowZero priority state arrived list operator)
+
+unfoldable pub tasksRight : ℕ → List ℕ → List ℕ → List ℕ → List ℕ → List ℕ → Bool
+tasksRight tasks priorities states arrived lists operators =
+    below taskRoom
+    (λ i. rowFits tasks i (getD priorities i 0) (getD states i 0) (getD arrived i 0) (getD lists i 0) (getD operators i 0))
 
 -- region i of a table with so many, where h is its entry and v the occupied ones'
 unfoldable pub regionFits : ℕ → ℕ → ℕ → ℕ → Bool
 regionFits regions v i h = isZero h || (ltb i regions && eqb h v)
 
-unfoldable pub regionsRight : ℕ → List ℕ → Bool
-regionsRight regions holders = below regionRoom (λ i. regionFits regions (held holders) i (getD holders i 0))
+unfoldable pub regionsRight : ℕ → ℕ → List ℕ → Bool
+regionsRight regions v holders = below regionRoom (λ i. regionFits regions v i (getD holders i 0))
 
 -- the holder, if there is one, is a task that is ready
-unfoldable pub holderRight : ℕ → List Task → ℕ → Bool
-holderRight tasks rows v = isZero v || (leb v tasks && isReady (getD rows (v - 1) noTask))
+unfoldable pub holderRight : ℕ → List ℕ → ℕ → Bool
+holderRight tasks states v = isZero v || (leb v tasks && readyAt states (v - 1))
 
 -- bound and length of queue q of a table with so many queues
 unfoldable pub boundFits : ℕ → ℕ → ℕ → ℕ → Bool
@@ -144,32 +175,37 @@ queuesRight queues bounds lengths es cs = below queueRoom (λ q. queueRight queu
 pub record Parts (t : Table) : Type 0 where
   pub shape : shaped t ≡ true
   pub counts : countsInRange (t .tasks) (t .regions) (t .queues) ≡ true
-  pub tasks : tasksRight (t .tasks) (t .task) ≡ true
-  pub regions : regionsRight (t .regions) (t .holder) ≡ true
-  pub holder : holderRight (t .tasks) (t .task) (held (t .holder)) ≡ true
+  pub tasks : tasksRight (t .tasks) (t .priority) (t .state) (t .arrived) (t .list) (t .operator) ≡ true
+  pub regions : regionsRight (t .regions) (held (t .holder)) (t .holder) ≡ true
+  pub holder : holderRight (t .tasks) (t .state) (held (t .holder)) ≡ true
   pub queues : queuesRight (t .queues) (t .bound) (t .length) (t .element) (t .criterion) ≡ true
   pub criteria : criteriaInRange (t .criterion) ≡ true
-  pub elected : t .elected ≡ election (t .task) (t .holder)
+  pub elected : t .elected ≡ electionOf t
 
 -- ---- the same as the list says
 
+-- task i of t
+abbrev rightAt : Table → ℕ → Bool
+rightAt t i = rowRight (getD (t .priority) i 0) (getD (t .state) i 0) (getD (t .arrived) i 0) (getD (t .list) i 0) (getD (t .operator) i 0)
+
+abbrev zeroAt : Table → ℕ → Bool
+zeroAt t i = rowZero (getD (t .priority) i 0) (getD (t .state) i 0) (getD (t .arrived) i 0) (getD (t .list) i 0) (getD (t .operator) i 0)
+
 module _ (t : Table) (r : Rules t) where
-  tasks-gathered : tasksRight (t .tasks) (t .task) ≡ true
-  unfolding tasksRight rowFits rowRight prioritiesInRange listsInRange operatorsInRange restRight statesRight zeroPastCounts
+  tasks-gathered : tasksRight (t .tasks) (t .priority) (t .state) (t .arrived) (t .list) (t .operator) ≡ true
+  unfolding tasksRight rowFits rowRight rowZero prioritiesInRange listsInRange operatorsInRange restRight statesRight zeroPast zeroPastCounts
   tasks-gathered = below-all _ taskRoom (λ i k. go i k (ltb i (t .tasks)) refl)
     where
-      go : (i : ℕ) → i < taskRoom → (b : Bool) → ltb i (t .tasks) ≡ b
-          → cond (ltb i (t .tasks)) (rowRight (taskOf t i)) (zeroRow (taskOf t i)) ≡ true
+      go : (i : ℕ) → i < taskRoom → (b : Bool) → ltb i (t .tasks) ≡ b → cond (ltb i (t .tasks)) (rightAt t i) (zeroAt t i) ≡ true
       go i k true e =
           let l = ltb-true i (t .tasks) e in
-          let lists = within-at _ _ _ i (r .lists) l k in
           rw e
           (shown _ (
             within-at _ _ _ i (r .priorities) l k,
             (
-              and-left _ _ lists,
+              within-at _ _ _ i (r .events) l k,
               (
-                and-right (ltb (taskOf t i .arrived) listEnd) _ lists,
+                within-at _ _ _ i (r .lists) l k,
                 (
                   within-at _ _ _ i (r .operators) l k,
                   (
@@ -180,19 +216,35 @@ module _ (t : Table) (r : Rules t) where
               ),
             ),
           ))
-      go i k false e = rw e (past-at _ _ _ i (given _ (r .past-counts) .0) (ltb-false i (t .tasks) e) k)
+      go i k false e =
+          let l = ltb-false i (t .tasks) e in
+          let (p, (s, (a, (w, (o, rest))))) = given _ (r .past-counts) in
+          rw e
+          (shown _ (
+            past-at _ _ _ i p l k,
+            (
+              past-at _ _ _ i s l k,
+              (
+                past-at _ _ _ i a l k,
+                (
+                  past-at _ _ _ i w l k,
+                  (past-at _ _ _ i o l k, tt),
+                ),
+              ),
+            ),
+          ))
 
-  regions-gathered : regionsRight (t .regions) (t .holder) ≡ true
-  unfolding regionsRight regionFits oneHolder zeroPastCounts
+  regions-gathered : regionsRight (t .regions) (held (t .holder)) (t .holder) ≡ true
+  unfolding regionsRight regionFits oneHolder zeroPast zeroPastCounts
   regions-gathered = below-all _ regionRoom (λ i k. go i k (ltb i (t .regions)) refl)
     where
       go : (i : ℕ) → i < regionRoom → (b : Bool) → ltb i (t .regions) ≡ b
           → (isZero (getD (t .holder) i 0) || (ltb i (t .regions) && eqb (getD (t .holder) i 0) (held (t .holder)))) ≡ true
       go i k true e = rw e (within-at _ _ _ i (r .one-holder) (ltb-true i (t .regions) e) k)
-      go i k false e = or-first _ _ (past-at _ _ _ i (given _ (r .past-counts) .1 .0) (ltb-false i (t .regions) e) k)
+      go i k false e = or-first _ _ (past-at _ _ _ i (given _ (r .past-counts) .1 .1 .1 .1 .1 .0) (ltb-false i (t .regions) e) k)
 
   queues-gathered : queuesRight (t .queues) (t .bound) (t .length) (t .element) (t .criterion) ≡ true
-  unfolding queuesRight queueRight boundFits boundsInRange lengthsRight zeroPastCounts zeroPastLengths
+  unfolding queuesRight queueRight boundFits boundsInRange lengthsRight zeroPast zeroPastCounts zeroPastLengths
   queues-gathered = below-all _ queueRoom (λ q k. both (go q k (ltb q (t .queues)) refl) (below-at _ queueRoom q (r .past-lengths) k))
     where
       go : (q : ℕ) → q < queueRoom → (b : Bool) → ltb q (t .queues) ≡ b
@@ -203,39 +255,40 @@ module _ (t : Table) (r : Rules t) where
       go q k false e =
           let l = ltb-false q (t .queues) e in
           let past = given _ (r .past-counts) in
-          rw e (both (past-at _ _ _ q (past .1 .1 .0) l k) (past-at _ _ _ q (past .1 .1 .1 .0) l k))
+          rw e (both (past-at _ _ _ q (past .1 .1 .1 .1 .1 .1 .0) l k) (past-at _ _ _ q (past .1 .1 .1 .1 .1 .1 .1 .0) l k))
 
 -- ---- what the tasks' part says of one task
 
-module _ (tasks : ℕ) (rows : List Task) (right : tasksRight tasks rows ≡ true) where
-  -- below the count, the row is right; past it, zero
-  pub row-right : (i : ℕ) → i < tasks → i < taskRoom → rowRight (getD rows i noTask) ≡ true
+module _ (t : Table) (right : tasksRight (t .tasks) (t .priority) (t .state) (t .arrived) (t .list) (t .operator) ≡ true) where
+  -- below the count it is right, past it zero
+  pub row-right : (i : ℕ) → i < t .tasks → i < taskRoom → rightAt t i ≡ true
   unfolding tasksRight rowFits
-  row-right i l k = simp (lt-ltb i tasks l) at (below-at _ taskRoom i right k)
+  row-right i l k = simp (lt-ltb i (t .tasks) l) at (below-at _ taskRoom i right k)
 
-  pub row-zero : (i : ℕ) → tasks ≤ i → i < taskRoom → zeroRow (getD rows i noTask) ≡ true
+  pub row-zero : (i : ℕ) → t .tasks ≤ i → i < taskRoom → zeroAt t i ≡ true
   unfolding tasksRight rowFits
-  row-zero i l k = simp (le-ltb i tasks l) at (below-at _ taskRoom i right k)
+  row-zero i l k = simp (le-ltb i (t .tasks) l) at (below-at _ taskRoom i right k)
 
   -- a ready task is below the count
-  pub ready-below : length rows ≡ taskRoom → (i : ℕ) → isReady (getD rows i noTask) ≡ true → i < tasks
-  unfolding zeroRow
-  ready-below long i h = go (ltb i tasks) (ltb i taskRoom) refl refl
+  pub ready-below : length (t .state) ≡ taskRoom → (i : ℕ) → readyAt (t .state) i ≡ true → i < t .tasks
+  unfolding rowZero
+  ready-below long i h = go (ltb i (t .tasks)) (ltb i taskRoom) refl refl
     where
-      go : (b c : Bool) → ltb i tasks ≡ b → ltb i taskRoom ≡ c → i < tasks
-      go true c e f = ltb-true i tasks e
+      go : (b c : Bool) → ltb i (t .tasks) ≡ b → ltb i taskRoom ≡ c → i < t .tasks
+      go true c e f = ltb-true i (t .tasks) e
       go false true e f =
-          let zero-state : getD rows i noTask .state ≡ 0 = eqb-true _ 0 (given _ (row-zero i (ltb-false i tasks e) (ltb-true i taskRoom f)) .1 .0) in
+          let zero-state : getD (t .state) i 0 ≡ 0 =
+          eqb-true _ 0 (given _ (row-zero i (ltb-false i (t .tasks) e) (ltb-true i taskRoom f)) .1 .0) in
           absurd (false≢true (rw zero-state at h))
       go false false e f =
-          let past : getD rows i noTask ≡ noTask = List·getD-eq-default rows noTask (rw long (ltb-false i taskRoom f)) in
+          let past : getD (t .state) i 0 ≡ 0 = List·getD-eq-default (t .state) 0 (rw long (ltb-false i taskRoom f)) in
           absurd (false≢true (rw past at h))
 
 -- ---- and back
 
-task-length : (t : Table) → shaped t ≡ true → length (t .task) ≡ taskRoom
+state-length : (t : Table) → shaped t ≡ true → length (t .state) ≡ taskRoom
 unfolding shaped
-task-length t s = eqb-true _ _ (given _ s .0)
+state-length t s = eqb-true _ _ (given _ s .1 .0)
 
 pub parts-of : (t : Table) → valid t ≡ true → Parts t
 unfolding electedRight holderRight holderReady
@@ -253,17 +306,20 @@ parts-of t v =
     }
   where
     go : (b : Bool) → isZero (held (t .holder)) ≡ b
-        → (isZero (held (t .holder)) || (leb (held (t .holder)) (t .tasks) && isReady (taskOf t (holderOf (t .holder))))) ≡ true
+        → (isZero (held (t .holder)) || (leb (held (t .holder)) (t .tasks) && readyAt (t .state) (holderOf (t .holder)))) ≡ true
     go true e = rw e refl
     go false e =
         let r = rules-of t v in
-        let h : isReady (taskOf t (holderOf (t .holder))) ≡ true = simp e at (r .holder-ready) in
-        let l = ready-below (t .tasks) (t .task) (tasks-gathered t r) (task-length t (r .shape)) (holderOf (t .holder)) h in
+        let h : readyAt (t .state) (holderOf (t .holder)) ≡ true = simp e at (r .holder-ready) in
+        let l = ready-below t (tasks-gathered t r) (state-length t (r .shape)) (holderOf (t .holder)) h in
         rw e (both (le-leb (held (t .holder)) (t .tasks) (omega arith)) h)
 
 module _ (t : Table) (p : Parts t) where
-  right : (i : ℕ) → i < t .tasks → i < taskRoom → rowRight (taskOf t i) ≡ true
-  right = row-right (t .tasks) (t .task) (p .tasks)
+  right : (i : ℕ) → i < t .tasks → i < taskRoom → rightAt t i ≡ true
+  right = row-right t (p .tasks)
+
+  behind-count : (i : ℕ) → t .tasks ≤ i → i < taskRoom → zeroAt t i ≡ true
+  behind-count = row-zero t (p .tasks)
 
   region-fits : (i : ℕ) → i < regionRoom → regionFits (t .regions) (held (t .holder)) i (getD (t .holder) i 0) ≡ true
   unfolding regionsRight
@@ -313,7 +369,7 @@ module _ (t : Table) (p : Parts t) where
       let h = getD (t .holder) i 0 in
       ⊎-elim (λ z. z) (λ w. absurd (false≢true (sym (le-ltb i (t .regions) l) ∙ and-left _ _ w))) (or-cases (isZero h) _ (region-fits i k))
 
-  holder-is-ready : holderReady (t .task) (t .holder) ≡ true
+  holder-is-ready : holderReady (t .state) (t .holder) ≡ true
   unfolding holderReady holderRight
   holder-is-ready =
       ⊎-elim (λ z. rw z refl) (λ w. or-second (not (occupied (t .holder))) _ (and-right (leb (held (t .holder)) (t .tasks)) _ w))
@@ -328,25 +384,38 @@ module _ (t : Table) (p : Parts t) where
       go false e = rw e refl
 
   rules-gathered : Rules t
-  unfolding prioritiesInRange boundsInRange listsInRange operatorsInRange holdersInRange zeroPastCounts zeroPastLengths restRight statesRight oneHolder lengthsRight electedRight rowRight queueRight
+  unfolding prioritiesInRange boundsInRange listsInRange operatorsInRange holdersInRange zeroPast zeroPastCounts zeroPastLengths restRight statesRight oneHolder lengthsRight electedRight rowRight rowZero queueRight
   rules-gathered =
       record {
         shape = p .shape;
         counts = p .counts;
         priorities = within-all _ _ _ (λ i l k. given _ (right i l k) .0);
         bounds = within-all _ _ _ (λ q l k. and-left _ _ (used q l k));
-        lists = within-all _ _ _ (λ i l k. both (given _ (right i l k) .1 .0) (given _ (right i l k) .1 .1 .0));
+        events = within-all _ _ _ (λ i l k. given _ (right i l k) .1 .0);
+        lists = within-all _ _ _ (λ i l k. given _ (right i l k) .1 .1 .0);
         operators = within-all _ _ _ (λ i l k. given _ (right i l k) .1 .1 .1 .0);
         holders = within-all _ _ _ (λ i l k. entry-fits i k);
         criteria = p .criteria;
         past-counts =
             shown _ (
-              past-all _ _ _ (row-zero (t .tasks) (t .task) (p .tasks)),
+              past-all _ _ _ (λ i l k. given _ (behind-count i l k) .0),
               (
-                past-all _ _ _ free-past,
+                past-all _ _ _ (λ i l k. given _ (behind-count i l k) .1 .0),
                 (
-                  past-all _ _ _ (λ q l k. and-left _ _ (unused q l k)),
-                  (past-all _ _ _ (λ q l k. and-right (isZero (boundOf t q)) _ (unused q l k)), tt),
+                  past-all _ _ _ (λ i l k. given _ (behind-count i l k) .1 .1 .0),
+                  (
+                    past-all _ _ _ (λ i l k. given _ (behind-count i l k) .1 .1 .1 .0),
+                    (
+                      past-all _ _ _ (λ i l k. given _ (behind-count i l k) .1 .1 .1 .1 .0),
+                      (
+                        past-all _ _ _ free-past,
+                        (
+                          past-all _ _ _ (λ q l k. and-left _ _ (unused q l k)),
+                          (past-all _ _ _ (λ q l k. and-right (isZero (boundOf t q)) _ (unused q l k)), tt),
+                        ),
+                      ),
+                    ),
+                  ),
                 ),
               ),
             );
@@ -367,12 +436,12 @@ valid-parts t p = valid-of t (rules-gathered t p)
 abbrev pub checks : Table → List Bool
 checks t =
     countsInRange (t .tasks) (t .regions) (t .queues)
-    ∷ tasksRight (t .tasks) (t .task)
-    ∷ regionsRight (t .regions) (t .holder)
-    ∷ holderRight (t .tasks) (t .task) (held (t .holder))
+    ∷ tasksRight (t .tasks) (t .priority) (t .state) (t .arrived) (t .list) (t .operator)
+    ∷ regionsRight (t .regions) (held (t .holder)) (t .holder)
+    ∷ holderRight (t .tasks) (t .state) (held (t .holder))
     ∷ queuesRight (t .queues) (t .bound) (t .length) (t .element) (t .criterion)
     ∷ criteriaInRange (t .criterion)
-    ∷ eqb (t .elected) (election (t .task) (t .holder))
+    ∷ eqb (t .elected) (electionOf t)
     ∷ []
 
 pub valid-is : (t : Table) → shaped t ≡ true → valid t ≡ all (checks t)
@@ -395,5 +464,30 @@ waits-unmet t v i l w =
     let p = parts-of t v in
     let k : i < taskRoom = omega (arith, leb-true (t .tasks) taskRoom (given _ (p .counts) .1 .0)) in
     let two : taskOf t i .state ≡ waiting = eqb-true _ waiting w in
-    let state = given _ (row-right (t .tasks) (t .task) (p .tasks) i l k) .1 .1 .1 .1 .1 .0 in
+    let state = given _ (row-right t (p .tasks) i l k) .1 .1 .1 .1 .1 .0 in
     not-true _ (and-right (not (isZero (taskOf t i .list))) _ (rw two at state))
+
+-- ---- what a valid table says of one queue
+
+pub sound : (t : Table) → Parts t → (q : ℕ) → q < queueRoom → Sound t q
+unfolding shaped queueRight boundFits
+sound t p q k =
+    let (a, (b, (c, (d, (e, (f, (g, (h, (i, (j, rest)))))))))) = given _ (p .shape) in
+    let lengths = eqb-true (length (t .length)) queueRoom h in
+    let elements = eqb-true (length (t .element)) storeSize i in
+    let criteria = eqb-true (length (t .criterion)) storeSize j in
+    let behind-it = and-right (boundFits (t .queues) q (boundOf t q) (lengthOf t q)) _ (queue-fits t p q k) in
+    record {
+      room = omega arith;
+      short = short (ltb q (t .queues)) refl;
+      ez = and-left _ _ behind-it;
+      cz = and-right (every isZero (behind q (lengthOf t q) (t .element))) _ behind-it;
+    }
+  where
+    short : (b : Bool) → ltb q (t .queues) ≡ b → lengthOf t q ≤ places
+    short true e =
+        let u = used t p q (ltb-true q (t .queues) e) k in
+        let fits = leb-true (boundOf t q) places (and-right (ltb 0 (boundOf t q)) _ (and-left _ _ u)) in
+        omega (arith, leb-true (lengthOf t q) (boundOf t q) (and-right (boundInRange (boundOf t q)) _ u))
+    short false e =
+        omega (arith, eqb-true (lengthOf t q) 0 (and-right (isZero (boundOf t q)) _ (unused t p q (ltb-false q (t .queues) e) k)))

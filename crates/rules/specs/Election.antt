@@ -1,27 +1,39 @@
 -- Election: "the holder if any region is occupied; else the ready task of smallest priority number, and of equals the lowest task number; else 255".
-use Prim.Native.Nat.{ℕ, suc, min}
+use Prim.Native.Nat.{ℕ, zero, suc, min}
 use mathlib.Core.Bool.{Bool, cond, _&&_}
-use mathlib.Core.List.{List, [], _∷_}
+use mathlib.Core.List.{List}
 use lib.Dec.{eqb}
-use Rattle.rules.specs.declared.Task.{Task}
-use Rattle.rules.specs.Numbers.{priorityEnd, nobody}
-use Rattle.rules.specs.Tasks.{isReady}
+use lib.ListN.{getD}
+use Rattle.rules.specs.Numbers.{taskRoom, priorityEnd, nobody}
+use Rattle.rules.specs.Tasks.{ready}
 use Rattle.rules.specs.Regions.{occupied, holderOf}
 
--- the smallest priority number of a ready task; 256 where none is ready
-unfoldable pub smallest : List Task → ℕ
-smallest [] = priorityEnd
-smallest (r ∷ rs) = cond (isReady r) (min (r .priority) (smallest rs)) (smallest rs)
+-- of the numbers below n that pass: the smallest priority; 256 where none passes
+unfoldable pub smallest : ℕ → (ℕ → Bool) → (ℕ → ℕ) → ℕ
+smallest zero passes priority = priorityEnd
+smallest (suc n) passes priority =
+    cond (passes n) (min (priority n) (smallest n passes priority)) (smallest n passes priority)
 
--- the lowest number of a ready task of that priority, counted from i; 255 where there is none
-unfoldable pub lowest : ℕ → ℕ → List Task → ℕ
-lowest priority i [] = nobody
-lowest priority i (r ∷ rs) = cond (isReady r && eqb (r .priority) priority) i (lowest priority (suc i) rs)
+-- the lowest number below n that passes; 255 where none does
+unfoldable pub lowest : ℕ → (ℕ → Bool) → ℕ
+lowest zero passes = nobody
+lowest (suc n) passes = cond (eqb (lowest n passes) nobody && passes n) n (lowest n passes)
 
--- "the ready task of smallest priority number, and of equals the lowest task number; else 255"
-unfoldable pub bestReady : List Task → ℕ
-bestReady rows = lowest (smallest rows) 0 rows
+abbrev pub readyAt : List ℕ → ℕ → Bool
+readyAt states i = eqb (getD states i 0) ready
+
+abbrev pub priorityAt : List ℕ → ℕ → ℕ
+priorityAt priorities i = getD priorities i 0
+
+-- a ready task "of smallest priority number"
+unfoldable pub isBest : List ℕ → List ℕ → ℕ → Bool
+isBest states priorities i =
+    readyAt states i && eqb (priorityAt priorities i) (smallest taskRoom (readyAt states) (priorityAt priorities))
+
+-- "of equals the lowest task number; else 255"
+unfoldable pub bestReady : List ℕ → List ℕ → ℕ
+bestReady states priorities = lowest taskRoom (isBest states priorities)
 
 -- "the holder if any region is occupied; else .."
-unfoldable pub election : List Task → List ℕ → ℕ
-election rows holders = cond (occupied holders) (holderOf holders) (bestReady rows)
+unfoldable pub election : List ℕ → List ℕ → List ℕ → ℕ
+election states priorities holders = cond (occupied holders) (holderOf holders) (bestReady states priorities)

@@ -1,15 +1,14 @@
 -- A fresh table: "from a configuration: counts, priorities, bounds".
 use Prim.Native.Nat.{ℕ}
 use mathlib.Core.Bool.{Bool, cond}
-use mathlib.Core.List.{List, [], _∷_, map}
+use mathlib.Core.List.{List, [], _∷_}
 use lib.Dec.{ltb, leb}
 use lib.ListN.{length, take, replicate}
-use Rattle.rules.specs.declared.Task.{Task}
 use Rattle.rules.specs.declared.Table.{Table}
 use Rattle.rules.specs.declared.Done.{Done}
 use Rattle.rules.specs.Numbers.{taskRoom, priorityEnd, regionRoom, queueRoom, storeSize}
-use Rattle.rules.specs.Words.{all, every, padded, altered}
-use Rattle.rules.specs.Tasks.{noTask, stopped, asStarted}
+use Rattle.rules.specs.Words.{all, every, padded}
+use Rattle.rules.specs.Tasks.{stopped, ready}
 use Rattle.rules.specs.Validity.{countsInRange, boundInRange}
 use Rattle.rules.specs.Answers.{done, refused}
 
@@ -23,9 +22,6 @@ configurationInRange tasks regions queues priorities bounds =
     ∷ every boundInRange (take queues bounds)
     ∷ [])
 
-abbrev pub newTask : ℕ → Task
-newTask priority = record { priority = priority; state = stopped; arrived = 0; list = 0; operator = 0 }
-
 -- "Task 0 is ready and elected, the others stopped, no event arrived, regions free, queues empty."
 unfoldable pub freshTable : ℕ → ℕ → ℕ → List ℕ → List ℕ → Table
 freshTable tasks regions queues priorities bounds =
@@ -34,7 +30,11 @@ freshTable tasks regions queues priorities bounds =
       regions = regions;
       queues = queues;
       elected = 0;
-      task = padded taskRoom noTask (altered 0 asStarted (map newTask (take tasks priorities)));
+      priority = padded taskRoom 0 (take tasks priorities);
+      state = padded taskRoom stopped (ready ∷ []);
+      arrived = replicate taskRoom 0;
+      list = replicate taskRoom 0;
+      operator = replicate taskRoom 0;
       holder = replicate regionRoom 0;
       bound = padded queueRoom 0 (take queues bounds);
       length = replicate queueRoom 0;
@@ -50,7 +50,11 @@ zeroTable =
       regions = 0;
       queues = 0;
       elected = 0;
-      task = replicate taskRoom noTask;
+      priority = replicate taskRoom 0;
+      state = replicate taskRoom 0;
+      arrived = replicate taskRoom 0;
+      list = replicate taskRoom 0;
+      operator = replicate taskRoom 0;
       holder = replicate regionRoom 0;
       bound = replicate queueRoom 0;
       length = replicate queueRoom 0;

@@ -7,6 +7,7 @@ use Rattle.rules.specs.declared.Table.{Table}
 use Rattle.rules.specs.declared.Answer.{Answer}
 use Rattle.rules.specs.Words.{isZero, first}
 use Rattle.rules.specs.Events.{met}
+use Rattle.rules.specs.Election.{priorityAt}
 use Rattle.rules.specs.Tables.{taskOf, boundOf, queueOf}
 use Rattle.rules.specs.Answers.{replied}
 use Rattle.rules.specs.Refusals.{arrivedReasons, objectReasons}
@@ -29,7 +30,7 @@ fullQuery t queue =
 
 -- "PRIORITY, STATE (task: 0 stopped, 1 ready, 2 waiting)"
 unfoldable pub priorityQuery : Table → ℕ → Answer
-priorityQuery t task = replied t (first (objectReasons t (t .tasks) task)) (taskOf t task .priority)
+priorityQuery t task = replied t (first (objectReasons t (t .tasks) task)) (priorityAt (t .priority) task)
 
 unfoldable pub stateQuery : Table → ℕ → Answer
 stateQuery t task = replied t (first (objectReasons t (t .tasks) task)) (taskOf t task .state)

@@ -4,12 +4,11 @@ use mathlib.Core.Bool.{Bool, false, true, not, _&&_, _||_}
 use mathlib.Core.List.{List, [], _∷_}
 use lib.Dec.{ltb, eqb, leb}
 use lib.ListN.{getD, length}
-use Rattle.rules.specs.declared.Task.{Task}
 use Rattle.rules.specs.declared.Table.{Table}
 use Rattle.rules.specs.declared.Call.{Call}
 use Rattle.rules.specs.Numbers.{eventEnd, criterionEnd, largestPresent, outside, SIGNAL, WAIT, SEND, RETRIEVE}
 use Rattle.rules.specs.Words.{isZero, byOperation, Reason, when, first}
-use Rattle.rules.specs.Tasks.{noTask, isStopped}
+use Rattle.rules.specs.Tasks.{stopped}
 use Rattle.rules.specs.Regions.{occupied}
 use Rattle.rules.specs.Queues.{Pair, noneFits}
 use Rattle.rules.specs.Tables.{boundOf, queueOf}
@@ -64,14 +63,17 @@ badOperator operator = ltb 1 operator
 
 -- ---- 15: "START of a task not stopped; STOP or SIGNAL of a stopped one"
 
-unfoldable pub wrongState : List Task → Call → Bool
-wrongState rows c =
+abbrev pub stoppedAt : List ℕ → ℕ → Bool
+stoppedAt states i = eqb (getD states i 0) stopped
+
+unfoldable pub wrongState : List ℕ → Call → Bool
+wrongState states c =
     byOperation false (c .operation)
     -- START, STOP, END, SIGNAL
-    (not (isStopped (getD rows (c .a) noTask))
-    ∷ isStopped (getD rows (c .a) noTask)
+    (not (stoppedAt states (c .a))
+    ∷ stoppedAt states (c .a)
     ∷ false
-    ∷ isStopped (getD rows (c .b) noTask)
+    ∷ stoppedAt states (c .b)
     ∷ [])
 
 -- ---- 16: "WAIT, END or STOP of oneself while any region is occupied, even if the wait would pass"
@@ -92,7 +94,7 @@ reasons t c =
     ∷ when 12 (notElected (t .elected) (c .caller))
     ∷ when 14 (missing (t .tasks) (t .regions) (t .queues) c)
     ∷ when 19 (eqb (c .operation) WAIT && badOperator (c .b))
-    ∷ when 15 (wrongState (t .task) c)
+    ∷ when 15 (wrongState (t .state) c)
     ∷ when 16 (leaves c && occupied (t .holder))
     ∷ when 17 (eqb (c .operation) SEND && leb (boundOf t (c .a)) (length (queueOf t (c .a))))
     ∷ when 18 (eqb (c .operation) RETRIEVE && noneFits (c .c) (queueOf t (c .a)))

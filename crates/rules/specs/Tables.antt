@@ -4,13 +4,18 @@ use mathlib.Core.List.{List}
 use lib.ListN.{getD, set, length}
 use Rattle.rules.specs.declared.Task.{Task}
 use Rattle.rules.specs.declared.Table.{Table}
-use Rattle.rules.specs.Words.{altered}
-use Rattle.rules.specs.Tasks.{noTask}
 use Rattle.rules.specs.Queues.{Pair, pairs, elements, criteria, front, laid}
 use Rattle.rules.specs.Election.{election}
 
+-- what the columns say of task i
 abbrev pub taskOf : Table → ℕ → Task
-taskOf t i = getD (t .task) i noTask
+taskOf t i =
+    record {
+      state = getD (t .state) i 0;
+      arrived = getD (t .arrived) i 0;
+      list = getD (t .list) i 0;
+      operator = getD (t .operator) i 0;
+    }
 
 abbrev pub lengthOf : Table → ℕ → ℕ
 lengthOf t q = getD (t .length) q 0
@@ -22,14 +27,19 @@ boundOf t q = getD (t .bound) q 0
 unfoldable pub queueOf : Table → ℕ → List Pair
 queueOf t q = pairs (front q (lengthOf t q) (t .element)) (front q (lengthOf t q) (t .criterion))
 
-abbrev pub withTasks : List Task → Table → Table
-withTasks rows t =
+-- the table where the columns say this of task i
+abbrev pub withTask : ℕ → Task → Table → Table
+withTask i r t =
     record {
       tasks = t .tasks;
       regions = t .regions;
       queues = t .queues;
       elected = t .elected;
-      task = rows;
+      priority = t .priority;
+      state = set (t .state) i (r .state);
+      arrived = set (t .arrived) i (r .arrived);
+      list = set (t .list) i (r .list);
+      operator = set (t .operator) i (r .operator);
       holder = t .holder;
       bound = t .bound;
       length = t .length;
@@ -44,7 +54,11 @@ withHolders holders t =
       regions = t .regions;
       queues = t .queues;
       elected = t .elected;
-      task = t .task;
+      priority = t .priority;
+      state = t .state;
+      arrived = t .arrived;
+      list = t .list;
+      operator = t .operator;
       holder = holders;
       bound = t .bound;
       length = t .length;
@@ -59,7 +73,11 @@ withElected who t =
       regions = t .regions;
       queues = t .queues;
       elected = who;
-      task = t .task;
+      priority = t .priority;
+      state = t .state;
+      arrived = t .arrived;
+      list = t .list;
+      operator = t .operator;
       holder = t .holder;
       bound = t .bound;
       length = t .length;
@@ -67,7 +85,7 @@ withElected who t =
       criterion = t .criterion;
     }
 
--- queue q means this list
+-- the table where queue q means this list
 abbrev pub withQueue : ℕ → List Pair → Table → Table
 withQueue q queue t =
     record {
@@ -75,7 +93,11 @@ withQueue q queue t =
       regions = t .regions;
       queues = t .queues;
       elected = t .elected;
-      task = t .task;
+      priority = t .priority;
+      state = t .state;
+      arrived = t .arrived;
+      list = t .list;
+      operator = t .operator;
       holder = t .holder;
       bound = t .bound;
       length = set (t .length) q (length queue);
@@ -85,8 +107,11 @@ withQueue q queue t =
 
 -- task i changed by f
 abbrev pub changed : ℕ → (Task → Task) → Table → Table
-changed i f t = withTasks (altered i f (t .task)) t
+changed i f t = withTask i (f (taskOf t i)) t
 
 -- "the elected task is found afresh"
+abbrev pub electionOf : Table → ℕ
+electionOf t = election (t .state) (t .priority) (t .holder)
+
 abbrev pub settled : Table → Table
-settled t = withElected (election (t .task) (t .holder)) t
+settled t = withElected (electionOf t) t

@@ -24,21 +24,17 @@ isReady r = eqb (r .state) ready
 abbrev pub isWaiting : Task → Bool
 isWaiting r = eqb (r .state) waiting
 
--- a task row of zeros, as past the count
-abbrev pub noTask : Task
-noTask = record { priority = 0; state = 0; arrived = 0; list = 0; operator = 0 }
-
 -- START: "stopped becomes ready, no event arrived"
 abbrev pub asStarted : Task → Task
-asStarted r = record { priority = r .priority; state = ready; arrived = 0; list = 0; operator = 0 }
+asStarted r = record { state = ready; arrived = 0; list = 0; operator = 0 }
 
 -- STOP: "becomes stopped, events and waited list cleared"
 abbrev pub asStopped : Task → Task
-asStopped r = record { priority = r .priority; state = stopped; arrived = 0; list = 0; operator = 0 }
+asStopped r = record { state = stopped; arrived = 0; list = 0; operator = 0 }
 
 -- "Waiting: a list that isn't empty, an operator .."
 abbrev pub asWaiting : ℕ → ℕ → Task → Task
-asWaiting list operator r = record { priority = r .priority; state = waiting; arrived = r .arrived; list = list; operator = operator }
+asWaiting list operator r = record { state = waiting; arrived = r .arrived; list = list; operator = operator }
 
 -- WAIT: "condition met: nothing changes .. else the caller waits"
 unfoldable pub waited : ℕ → ℕ → Task → Task
@@ -46,11 +42,10 @@ waited list operator r = cond (met operator list (r .arrived)) r (asWaiting list
 
 -- a waiting task "becomes ready"; "waking doesn't clear events"
 abbrev pub asWoken : Task → Task
-asWoken r = record { priority = r .priority; state = ready; arrived = r .arrived; list = 0; operator = 0 }
+asWoken r = record { state = ready; arrived = r .arrived; list = 0; operator = 0 }
 
 abbrev pub withArrived : ℕ → Task → Task
-withArrived arrived r =
-    record { priority = r .priority; state = r .state; arrived = arrived; list = r .list; operator = r .operator }
+withArrived arrived r = record { state = r .state; arrived = arrived; list = r .list; operator = r .operator }
 
 -- "a waiting task whose condition is now met becomes ready"
 unfoldable pub woken : Task → Task

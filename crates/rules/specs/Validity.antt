@@ -4,21 +4,24 @@ use mathlib.Core.Bool.{Bool, true, false, not, _&&_, _||_}
 use mathlib.Core.List.{List, [], _∷_}
 use lib.Dec.{ltb, eqb, leb}
 use lib.ListN.{getD, length}
-use Rattle.rules.specs.declared.Task.{Task}
 use Rattle.rules.specs.declared.Table.{Table}
 use Rattle.rules.specs.Numbers.{taskRoom, priorityEnd, listEnd, regionRoom, queueRoom, places, storeSize, criterionEnd}
 use Rattle.rules.specs.Words.{isZero, all, every, below, within, past}
 use Rattle.rules.specs.Events.{met}
-use Rattle.rules.specs.Tasks.{noTask, isReady, isWaiting}
+use Rattle.rules.specs.Tasks.{isWaiting}
 use Rattle.rules.specs.Regions.{held, occupied, holderOf}
 use Rattle.rules.specs.Queues.{behind}
-use Rattle.rules.specs.Election.{election}
-use Rattle.rules.specs.Tables.{taskOf, lengthOf, boundOf}
+use Rattle.rules.specs.Election.{readyAt}
+use Rattle.rules.specs.Tables.{taskOf, electionOf}
 
 -- the arrays are as long as their types say: a definition sees an array as a list
 unfoldable pub shaped : Table → Bool
 shaped t =
-    all (eqb (length (t .task)) taskRoom
+    all (eqb (length (t .priority)) taskRoom
+    ∷ eqb (length (t .state)) taskRoom
+    ∷ eqb (length (t .arrived)) taskRoom
+    ∷ eqb (length (t .list)) taskRoom
+    ∷ eqb (length (t .operator)) taskRoom
     ∷ eqb (length (t .holder)) regionRoom
     ∷ eqb (length (t .bound)) queueRoom
     ∷ eqb (length (t .length)) queueRoom
@@ -34,8 +37,8 @@ countsInRange tasks regions queues =
     all (ltb 0 tasks ∷ leb tasks taskRoom ∷ leb regions regionRoom ∷ leb queues queueRoom ∷ [])
 
 -- "Priority 0 to 255"
-unfoldable pub prioritiesInRange : ℕ → List Task → Bool
-prioritiesInRange tasks rows = within tasks taskRoom (λ i. ltb (getD rows i noTask .priority) priorityEnd)
+unfoldable pub prioritiesInRange : ℕ → List ℕ → Bool
+prioritiesInRange tasks priorities = within tasks taskRoom (λ i. ltb (getD priorities i 0) priorityEnd)
 
 -- "a bound of 1 to 64 elements"
 abbrev pub boundInRange : ℕ → Bool
@@ -44,14 +47,13 @@ boundInRange bound = ltb 0 bound && leb bound places
 unfoldable pub boundsInRange : ℕ → List ℕ → Bool
 boundsInRange queues bounds = within queues queueRoom (λ q. boundInRange (getD bounds q 0))
 
--- the arrived events and the list waited for
-unfoldable pub listsInRange : ℕ → List Task → Bool
-listsInRange tasks rows =
-    within tasks taskRoom (λ i. ltb (getD rows i noTask .arrived) listEnd && ltb (getD rows i noTask .list) listEnd)
+-- the arrived events, and the lists waited for
+unfoldable pub listsInRange : ℕ → List ℕ → Bool
+listsInRange tasks lists = within tasks taskRoom (λ i. ltb (getD lists i 0) listEnd)
 
 -- "0 all, 1 any"
-unfoldable pub operatorsInRange : ℕ → List Task → Bool
-operatorsInRange tasks rows = within tasks taskRoom (λ i. leb (getD rows i noTask .operator) 1)
+unfoldable pub operatorsInRange : ℕ → List ℕ → Bool
+operatorsInRange tasks operators = within tasks taskRoom (λ i. leb (getD operators i 0) 1)
 
 -- free, or a task's number plus 1
 unfoldable pub holdersInRange : ℕ → ℕ → List ℕ → Bool
@@ -66,16 +68,19 @@ criteriaInRange criteria = every criterionInRange criteria
 
 -- ---- "Everything past a count or past a queue's length is 0."
 
-unfoldable pub zeroRow : Task → Bool
-zeroRow r =
-    all (isZero (r .priority) ∷ isZero (r .state) ∷ isZero (r .arrived) ∷ isZero (r .list) ∷ isZero (r .operator) ∷ [])
+unfoldable pub zeroPast : ℕ → ℕ → List ℕ → Bool
+zeroPast count room entries = past count room (λ i. isZero (getD entries i 0))
 
 unfoldable pub zeroPastCounts : Table → Bool
 zeroPastCounts t =
-    all (past (t .tasks) taskRoom (λ i. zeroRow (taskOf t i))
-    ∷ past (t .regions) regionRoom (λ r. isZero (getD (t .holder) r 0))
-    ∷ past (t .queues) queueRoom (λ q. isZero (boundOf t q))
-    ∷ past (t .queues) queueRoom (λ q. isZero (lengthOf t q))
+    all (zeroPast (t .tasks) taskRoom (t .priority)
+    ∷ zeroPast (t .tasks) taskRoom (t .state)
+    ∷ zeroPast (t .tasks) taskRoom (t .arrived)
+    ∷ zeroPast (t .tasks) taskRoom (t .list)
+    ∷ zeroPast (t .tasks) taskRoom (t .operator)
+    ∷ zeroPast (t .regions) regionRoom (t .holder)
+    ∷ zeroPast (t .queues) queueRoom (t .bound)
+    ∷ zeroPast (t .queues) queueRoom (t .length)
     ∷ [])
 
 unfoldable pub zeroPastLengths : List ℕ → List ℕ → List ℕ → Bool
@@ -85,11 +90,10 @@ zeroPastLengths lengths elements criteria =
 
 -- ---- "Where nothing is waited for, list and operator are 0."
 
-unfoldable pub restRight : ℕ → List Task → Bool
-restRight tasks rows =
-    within tasks taskRoom
-    (λ i.
-    isWaiting (getD rows i noTask) || (isZero (getD rows i noTask .list) && isZero (getD rows i noTask .operator)))
+unfoldable pub restRight : Table → Bool
+restRight t =
+    within (t .tasks) taskRoom
+    (λ i. isWaiting (taskOf t i) || (isZero (taskOf t i .list) && isZero (taskOf t i .operator)))
 
 -- ---- "A task is stopped, ready or waiting."
 
@@ -101,11 +105,10 @@ stateRight (suc zero) arrived list operator = true
 stateRight (suc (suc zero)) arrived list operator = not (isZero list) && not (met operator list arrived)
 stateRight (suc (suc (suc more))) arrived list operator = false
 
-abbrev pub rowState : Task → Bool
-rowState r = stateRight (r .state) (r .arrived) (r .list) (r .operator)
-
-unfoldable pub statesRight : ℕ → List Task → Bool
-statesRight tasks rows = within tasks taskRoom (λ i. rowState (getD rows i noTask))
+unfoldable pub statesRight : Table → Bool
+statesRight t =
+    within (t .tasks) taskRoom
+    (λ i. stateRight (taskOf t i .state) (taskOf t i .arrived) (taskOf t i .list) (taskOf t i .operator))
 
 -- ---- "A region is free or has one holder. All occupied regions have the same holder, which is ready and is the elected task."
 
@@ -113,8 +116,8 @@ unfoldable pub oneHolder : ℕ → List ℕ → Bool
 oneHolder regions holders =
     within regions regionRoom (λ r. isZero (getD holders r 0) || eqb (getD holders r 0) (held holders))
 
-unfoldable pub holderReady : List Task → List ℕ → Bool
-holderReady rows holders = not (occupied holders) || isReady (getD rows (holderOf holders) noTask)
+unfoldable pub holderReady : List ℕ → List ℕ → Bool
+holderReady states holders = not (occupied holders) || readyAt states (holderOf holders)
 
 unfoldable pub holderElected : ℕ → List ℕ → Bool
 holderElected elected holders = not (occupied holders) || eqb elected (holderOf holders)
@@ -126,26 +129,27 @@ lengthsRight queues bounds lengths = within queues queueRoom (λ q. leb (getD le
 
 -- ---- "The elected task is the right one."
 
-unfoldable pub electedRight : ℕ → List Task → List ℕ → Bool
-electedRight elected rows holders = eqb elected (election rows holders)
+unfoldable pub electedRight : Table → Bool
+electedRight t = eqb (t .elected) (electionOf t)
 
 unfoldable pub valid : Table → Bool
 valid t =
     all (shaped t
     ∷ countsInRange (t .tasks) (t .regions) (t .queues)
-    ∷ prioritiesInRange (t .tasks) (t .task)
+    ∷ prioritiesInRange (t .tasks) (t .priority)
     ∷ boundsInRange (t .queues) (t .bound)
-    ∷ listsInRange (t .tasks) (t .task)
-    ∷ operatorsInRange (t .tasks) (t .task)
+    ∷ listsInRange (t .tasks) (t .arrived)
+    ∷ listsInRange (t .tasks) (t .list)
+    ∷ operatorsInRange (t .tasks) (t .operator)
     ∷ holdersInRange (t .tasks) (t .regions) (t .holder)
     ∷ criteriaInRange (t .criterion)
     ∷ zeroPastCounts t
     ∷ zeroPastLengths (t .length) (t .element) (t .criterion)
-    ∷ restRight (t .tasks) (t .task)
-    ∷ statesRight (t .tasks) (t .task)
+    ∷ restRight t
+    ∷ statesRight t
     ∷ oneHolder (t .regions) (t .holder)
-    ∷ holderReady (t .task) (t .holder)
+    ∷ holderReady (t .state) (t .holder)
     ∷ holderElected (t .elected) (t .holder)
     ∷ lengthsRight (t .queues) (t .bound) (t .length)
-    ∷ electedRight (t .elected) (t .task) (t .holder)
+    ∷ electedRight t
     ∷ [])

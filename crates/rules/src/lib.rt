@@ -12,23 +12,28 @@ pub const PLACES: usize = 64;
 
 pub const STORE: usize = 512;
 
-// One task. The state is 0 stopped, 1 ready, 2 waiting; bit i of `arrived` and `list` stands for event i.
+// What a call may change of a task; its priority is configured and stays. The state is 0 stopped, 1 ready, 2 waiting;
+// bit i of `arrived` and `list` stands for event i.
 pub struct Task {
-    pub priority: u8,
     pub state: u8,
     pub arrived: u16,
     pub list: u16,
     pub operator: u8,
 }
 
-// The executive's whole state. A region's `holder` is 0 where it is free, else the holder's number plus 1.
+// The executive's whole state. Tasks stand in columns, an array for each thing said of a task, so that a check goes through one at a
+// time and a function can be lent just those that it reads. A region's `holder` is 0 where it is free, else the holder's number plus 1.
 // Queue q has places 64 q to 64 q + 63 of the flat store, oldest element first.
 pub struct Table {
     pub tasks: u8,
     pub regions: u8,
     pub queues: u8,
     pub elected: u8,
-    pub task: [Task; TASKS],
+    pub priority: [u8; TASKS],
+    pub state: [u8; TASKS],
+    pub arrived: [u16; TASKS],
+    pub list: [u16; TASKS],
+    pub operator: [u8; TASKS],
     pub holder: [u8; REGIONS],
     pub bound: [u8; QUEUES],
     pub length: [u8; QUEUES],
