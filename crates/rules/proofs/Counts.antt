@@ -3,10 +3,13 @@ use Prim.Native.Nat.{ℕ, zero, suc, _+_, _<_, _≤_}
 use mathlib.Core.Path.{_≡_, refl, sym, ap, _∙_}
 use mathlib.Core.Logic.{_≢_, ⊎-elim}
 use mathlib.Core.Bool.{Bool, true, false, not, _&&_, _||_}
+use mathlib.Core.List.{List, map}
 use native.Mathlib.Omega.{arith}
 use native.Mathlib.Numerals.{add-one}
 use lib.Dec.{eqb, ltb}
-use borrow.Author.Tests.{eqb-true, eqb-false, lt-ltb, le-ltb, ltb-true, ltb-false}
+use lib.ListN.{length}
+use borrow.Author.Needs.{needs, length-unmapped}
+use borrow.Author.Tests.{eqb-true, eqb-false, eq-eqb, ne-eqb, lt-ltb, le-ltb, le-leb, lt-leb, ltb-true, ltb-false}
 use Rattle.rules.specs.Words.{below, within, past}
 use Rattle.rules.proofs.Bools.{and-left, and-right, both, or-first, or-second}
 
@@ -49,3 +52,31 @@ module _ (n room : ℕ) (p : ℕ → Bool) where
       go : (j : ℕ) → j < room → (b : Bool) → ltb j n ≡ b → (ltb j n || p j) ≡ true
       go j l true e = rw e refl
       go j l false e = rw e (h j (ltb-false j n e) l)
+
+-- ---- as loops need it
+
+-- one number more passes
+pub below-again : (i : ℕ) (p : ℕ → Bool) (ok here : Bool) → ok ≡ below i p → here ≡ p i → (ok && here) ≡ below (i + 1) p
+below-again i p ok here e h = rw (e, h) (sym (below-more i p))
+
+-- what is known at the count where a loop ends
+pub at-end {ℓ} : {A : Type ℓ} (f : ℕ → A) (i n : ℕ) {x : A} → x ≡ f i → i ≤ n → n ≤ i → x ≡ f n
+at-end f i n e l k = let same : i ≡ n = omega arith in e ∙ ap f same
+
+pub below-end : (i n : ℕ) (p : ℕ → Bool) (ok : Bool) → ok ≡ below i p → i ≤ n → n ≤ i → ok ≡ below n p
+below-end i n p ok e l k = at-end (λ m. below m p) i n e l k
+
+-- the end of an array of known length
+pub past-length : (X : Type 0) (l : List X) (i n : ℕ) → length l ≡ n → n ≤ i → length l ≤ i
+past-length X l i n e p = omega arith
+
+pub past-field : (X : Type 0) (l : List X) (i n : ℕ) → length (map (λ (v : X). v) l) ≡ n → n ≤ i → length l ≤ i
+past-field X l i n e p = past-length X l i n (length-unmapped X l n e) p
+
+pub within-length : (X : Type 0) (l : List X) (i n : ℕ) → length l ≡ n → i ≤ n → i ≤ length l
+within-length X l i n e p = omega arith
+
+-- rules for `search`: the end of an array; what a test computes to
+pub ruleset ends = (past-length, within-length, past-field, needs)
+
+pub ruleset tests = (lt-ltb, le-ltb, le-leb, lt-leb, eq-eqb, ne-eqb, needs)

@@ -80,12 +80,12 @@ columnsOf t = record { state = t .state; arrived = t .arrived; list = t .list; o
 
 -- what the queues hold
 pub record Contents : Type 0 where
-  pub length : List ℕ
+  pub lengths : List ℕ
   pub element : List ℕ
   pub criterion : List ℕ
 
 abbrev pub contentsOf : Table → Contents
-contentsOf t = record { length = t .length; element = t .element; criterion = t .criterion }
+contentsOf t = record { lengths = t .length; element = t .element; criterion = t .criterion }
 
 module _ (t : Table) (c : Call) where
   -- no operation changes counts, priorities or bounds

@@ -1,15 +1,18 @@
 -- The election in words of every ready task: who wins, that nobody else does, and that it is 255 exactly if none is ready.
-use Prim.Native.Nat.{ℕ, zero, suc, _+_, _<_, _≤_, min}
+use Prim.Native.Nat.{ℕ, zero, suc, _+_, _-_, _<_, _≤_, min}
 use mathlib.Core.Path.{_≡_, refl, sym, ap, _∙_}
 use mathlib.Core.Logic.{_≢_, _↔_, _⊎_, inl, inr, ⊎-elim}
 use mathlib.Core.Bool.{Bool, true, false, cond, _&&_, true≢false, false≢true}
 use mathlib.Core.List.{List}
 use native.Mathlib.Omega.{arith}
+use native.Mathlib.Numerals.{add-one}
 use lib.Dec.{eqb, ltb}
 use borrow.Author.Tests.{eqb-true, eqb-false, eq-eqb, ne-eqb, ltb-true, ltb-false}
 use Rattle.rules.specs.Numbers.{taskRoom, priorityEnd, nobody}
-use Rattle.rules.specs.Regions.{occupied, holderOf}
+use Rattle.rules.specs.Words.{isZero}
+use Rattle.rules.specs.Regions.{held, occupied, holderOf}
 use Rattle.rules.specs.Election.{smallest, lowest, readyAt, priorityAt, isBest, bestReady, election}
+use Rattle.rules.proofs.Counts.{at-end}
 use Rattle.rules.proofs.Bools.{and-left, and-right, both}
 
 -- ---- the smallest priority number, and the lowest number, over any test and any width
@@ -59,6 +62,16 @@ module _ (passes : ℕ → Bool) (priority : ℕ → ℕ) where
           let same : priority (q .0) ≡ min (priority n) (smallest n passes priority) = q .3 ∙ omega arith in
           rw e (inr (q .0, omega arith, q .2, same))
 
+-- one number more, as a loop counts
+pub smallest-again : (i : ℕ) (passes : ℕ → Bool) (priority : ℕ → ℕ) (p r : ℕ) → p ≡ smallest i passes priority
+    → r ≡ cond (passes i) (min (priority i) p) p → r ≡ smallest (i + 1) passes priority
+unfolding smallest
+smallest-again i passes priority p r e h = rw add-one (rw e at h)
+
+pub smallest-end : (i n : ℕ) (passes : ℕ → Bool) (priority : ℕ → ℕ) (p : ℕ) → p ≡ smallest i passes priority → i ≤ n → n ≤ i
+    → p ≡ smallest n passes priority
+smallest-end i n passes priority p e l k = at-end (λ m. smallest m passes priority) i n e l k
+
 -- what the lowest number that passes is
 pub record Lowest (n : ℕ) (passes : ℕ → Bool) : Type 0 where
   pub below : lowest n passes < n
@@ -71,6 +84,9 @@ module _ (passes : ℕ → Bool) (n : ℕ) where
   unfolding lowest
   lowest-none e h = simp (e, h)
 
+  pub lowest-again : lowest n passes ≡ nobody → passes n ≡ false → lowest (n + 1) passes ≡ nobody
+  lowest-again e h = rw add-one (lowest-none e h)
+
   pub lowest-here : lowest n passes ≡ nobody → passes n ≡ true → lowest (suc n) passes ≡ n
   unfolding lowest
   lowest-here e h = simp (e, h)
@@ -78,6 +94,22 @@ module _ (passes : ℕ → Bool) (n : ℕ) where
   pub lowest-kept : lowest n passes ≢ nobody → lowest (suc n) passes ≡ lowest n passes
   unfolding lowest
   lowest-kept h = rw (ne-eqb (lowest n passes) nobody h)
+
+pub lowest-end : (i n : ℕ) (passes : ℕ → Bool) → lowest i passes ≡ nobody → i ≤ n → n ≤ i → nobody ≡ lowest n passes
+lowest-end i n passes e l k = at-end (λ m. lowest m passes) i n (sym e) l k
+
+-- found at i: it stays, however far the count goes
+pub lowest-found : (passes : ℕ → Bool) (i n : ℕ) → i < n → i ≢ nobody → lowest i passes ≡ nobody → passes i ≡ true → lowest n passes ≡ i
+lowest-found passes i zero l w e h = absurd (omega arith)
+lowest-found passes i (suc n) l w e h = go (eqb i n) refl (lowest-found passes i n)
+  where
+    go : (b : Bool) → eqb i n ≡ b → (i < n → i ≢ nobody → lowest i passes ≡ nobody → passes i ≡ true → lowest n passes ≡ i)
+        → lowest (suc n) passes ≡ i
+    go true f ih = let same = eqb-true i n f in rw (← same) (lowest-here passes i e h)
+    go false f ih =
+        let other : i ≢ n = eqb-false i n f in
+        let found = ih (omega arith) w e h in
+        lowest-kept passes n (λ z. w (sym found ∙ z)) ∙ found
 
 pub lowest-is : (passes : ℕ → Bool) (n : ℕ) → n ≤ nobody
     → ((lowest n passes ≡ nobody) × ((i : ℕ) → i < n → passes i ≡ false)) ⊎ Lowest n passes
@@ -187,3 +219,15 @@ pub election-free : (states priorities holders : List ℕ) → occupied holders 
     → election states priorities holders ≡ bestReady states priorities
 unfolding election
 election-free states priorities holders h = rw h
+
+-- the same by the first occupied region's entry, as the code has it
+unfoldable pub electedBy : ℕ → List ℕ → List ℕ → ℕ
+electedBy v states priorities = cond (isZero v) (bestReady states priorities) (v - 1)
+
+pub election-by : (states priorities holders : List ℕ) → electedBy (held holders) states priorities ≡ election states priorities holders
+unfolding election electedBy
+election-by states priorities holders = go (isZero (held holders)) refl
+  where
+    go : (b : Bool) → isZero (held holders) ≡ b → electedBy (held holders) states priorities ≡ election states priorities holders
+    go true e = rw e
+    go false e = rw e

@@ -2,7 +2,7 @@
 use Prim.Native.Nat.{ℕ, zero, suc, _+_, _-_, _<_, _≤_}
 use mathlib.Core.Logic.{_≢_}
 use mathlib.Core.Path.{_≡_, refl, sym, _∙_, ap}
-use mathlib.Core.Bool.{Bool, true, false, _&&_}
+use mathlib.Core.Bool.{Bool, true, false, _&&_, and-assoc}
 use mathlib.Core.List.{List, [], _∷_, _++_, map}
 use native.Mathlib.Omega.{arith}
 use native.Mathlib.Nat.{le-of-suc-le-suc}
@@ -40,6 +40,12 @@ module _ {ℓ} {A : Type ℓ} (p : A → Bool) where
   pub every-append : (xs ys : List A) → every p xs ≡ true → every p ys ≡ true → every p (xs ++ ys) ≡ true
   every-append [] ys h k = k
   every-append (x ∷ xs) ys h k = every-cons x (xs ++ ys) (every-head x xs h) (every-append xs ys (every-tail x xs h) k)
+
+  -- the same as one equation
+  pub every-both : (xs ys : List A) → every p (xs ++ ys) ≡ (every p xs && every p ys)
+  unfolding every
+  every-both [] ys = refl
+  every-both (x ∷ xs) ys = ap (λ b. p x && b) (every-both xs ys) ∙ sym (and-assoc (p x) (every p xs) (every p ys))
 
   pub every-take : (n : ℕ) (xs : List A) → every p xs ≡ true → every p (take n xs) ≡ true
   every-take zero xs h = every-nil

@@ -2,13 +2,20 @@
 use Prim.Native.Nat.{ℕ}
 use mathlib.Core.Path.{_≡_, refl, sym, _∙_}
 use mathlib.Core.Logic.{_↔_}
-use mathlib.Core.Bool.{Bool, true, false, cond, not}
-use mathlib.Core.List.{List, [], _∷_, map}
-use borrow.Author.Tests.{eqb-false, not-true}
+use mathlib.Core.Bool.{Bool, true, false, cond, not, _&&_}
+use mathlib.Core.List.{List, [], _∷_, _++_, map}
+use lib.Dec.{eqb, ltb, leb}
+use lib.ListN.{length}
+use borrow.Author.Tests.{eqb-false, not-true, not-false}
 use Rattle.rules.specs.declared.Table.{Table}
 use Rattle.rules.specs.declared.Call.{Call}
 use Rattle.rules.specs.Words.{isZero, every, Reason, first}
-use Rattle.rules.specs.Refusals.{reasons, arrivedReasons, objectReasons, refusal}
+use Rattle.rules.specs.Numbers.{WAIT, SEND, RETRIEVE}
+use Rattle.rules.specs.Regions.{occupied}
+use Rattle.rules.specs.Queues.{noneFits}
+use Rattle.rules.specs.Tables.{boundOf, queueOf}
+use Rattle.rules.specs.Validity.{valid}
+use Rattle.rules.specs.Refusals.{outsideBarred, notElected, missing, badOperator, wrongState, leaves, reasons, arrivedReasons, objectReasons, refusal}
 use Rattle.rules.proofs.Lists.{every-head, every-tail}
 
 -- ---- the order of the status table
@@ -35,10 +42,10 @@ None [] = Unit {0}
 None (r ∷ rs) = (r .applies ≡ false) × None rs
 
 -- no status of a list is 0
-abbrev named : Reason → Bool
+abbrev pub named : Reason → Bool
 named r = not (isZero (r .status))
 
-first-none : (rs : List Reason) → every named rs ≡ true → first rs ≡ 0 → None rs
+pub first-none : (rs : List Reason) → every named rs ≡ true → first rs ≡ 0 → None rs
 first-none [] k h = tt
 first-none (r ∷ rs) k h = go (r .applies) refl (first-none rs (every-tail named r rs k))
   where
@@ -50,7 +57,48 @@ none-first : (rs : List Reason) → None rs → first rs ≡ 0
 none-first [] n = refl
 none-first (r ∷ rs) n = rw (n .0) (none-first rs (n .1))
 
+-- the first of two lists, one behind the other
+pub first-append : (rs ss : List Reason) → every named rs ≡ true → first (rs ++ ss) ≡ cond (isZero (first rs)) (first ss) (first rs)
+first-append [] ss k = refl
+first-append (r ∷ rs) ss k = go (r .applies) refl (first-append rs ss (every-tail named r rs k))
+  where
+    go : (b : Bool) → r .applies ≡ b → first (rs ++ ss) ≡ cond (isZero (first rs)) (first ss) (first rs)
+        → first ((r ∷ rs) ++ ss) ≡ cond (isZero (first (r ∷ rs))) (first ss) (first (r ∷ rs))
+    go true e ih = simp (e, not-true (isZero (r .status)) (every-head named r rs k))
+    go false e ih = simp e ih
+
 -- a call is accepted exactly when no listed reason holds
 pub accepted-none : (t : Table) (c : Call) → (refusal t c ≡ 0) ↔ None (reasons t c)
 unfolding refusal reasons every
 accepted-none t c = (first-none (reasons t c) refl, none-first (reasons t c))
+
+-- ---- what an accepted call has passed
+
+pub record Accepted (t : Table) (c : Call) : Type 0 where
+  pub is-valid : valid t ≡ true
+  pub known : ltb 9 (c .operation) ≡ false
+  pub barred : outsideBarred c ≡ false
+  pub not-elected : notElected (t .elected) (c .caller) ≡ false
+  pub nothing-missing : missing (t .tasks) (t .regions) (t .queues) c ≡ false
+  pub operator-fits : (eqb (c .operation) WAIT && badOperator (c .b)) ≡ false
+  pub right-state : wrongState (t .state) c ≡ false
+  pub may-leave : (leaves c && occupied (t .holder)) ≡ false
+  pub not-full : (eqb (c .operation) SEND && leb (boundOf t (c .a)) (length (queueOf t (c .a)))) ≡ false
+  pub fits : (eqb (c .operation) RETRIEVE && noneFits (c .c) (queueOf t (c .a))) ≡ false
+
+pub accepted-facts : (t : Table) (c : Call) → refusal t c ≡ 0 → Accepted t c
+unfolding reasons
+accepted-facts t c h =
+    let (a, (b, (d, (e, (f, (g, (i, (j, (k, (l, rest)))))))))) = accepted-none t c .0 h in
+    record {
+      is-valid = not-false (valid t) a;
+      known = b;
+      barred = d;
+      not-elected = e;
+      nothing-missing = f;
+      operator-fits = g;
+      right-state = i;
+      may-leave = j;
+      not-full = k;
+      fits = l;
+    }

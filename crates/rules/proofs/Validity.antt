@@ -9,16 +9,17 @@ use lib.Dec.{ltb, eqb, leb}
 use lib.ListN.{getD, length, List·getD-eq-default}
 use borrow.Author.Tests.{eqb-true, eq-eqb, ltb-true, ltb-false, leb-true, leb-false, lt-ltb, le-ltb, le-leb, not-true, not-false}
 use Rattle.rules.specs.declared.Table.{Table}
-use Rattle.rules.specs.Numbers.{taskRoom, priorityEnd, listEnd, regionRoom, queueRoom, places, storeSize}
+use Rattle.rules.specs.Numbers.{taskRoom, priorityEnd, listEnd, regionRoom, queueRoom, places, storeSize, nobody}
 use Rattle.rules.specs.Words.{isZero, all, every, below, within, past}
 use Rattle.rules.specs.Events.{met}
 use Rattle.rules.specs.Tasks.{waiting, isWaiting}
 use Rattle.rules.specs.Regions.{held, occupied, holderOf}
 use Rattle.rules.specs.Queues.{behind}
-use Rattle.rules.specs.Election.{readyAt, election}
+use Rattle.rules.specs.Election.{lowest, readyAt, isBest, bestReady, election}
 use Rattle.rules.specs.Tables.{taskOf, lengthOf, boundOf, electionOf}
 use Rattle.rules.specs.Validity.{shaped, countsInRange, prioritiesInRange, boundInRange, boundsInRange, listsInRange, operatorsInRange, holdersInRange, criterionInRange, criteriaInRange, zeroPast, zeroPastCounts, zeroPastLengths, restRight, stateRight, statesRight, oneHolder, holderReady, holderElected, lengthsRight, electedRight, valid}
 use Rattle.rules.proofs.Bools.{given, shown, and-left, and-right, both, or-cases, or-first, or-second, same-test}
+use Rattle.rules.proofs.Election.{lowest-is}
 use Rattle.rules.proofs.Queues.{Sound}
 use Rattle.rules.proofs.Counts.{below-at, below-all, within-at, within-all, past-at, past-all}
 
@@ -135,6 +136,28 @@ rowRight priority state arrived list operator =
     ∷ stateRight state arrived list operator
     ∷ [])
 
+-- the same, test by test
+pub record Row (priority state arrived list operator : ℕ) : Type 0 where
+  pub priority-fits : ltb priority priorityEnd ≡ true
+  pub arrived-fits : ltb arrived listEnd ≡ true
+  pub list-fits : ltb list listEnd ≡ true
+  pub operator-fits : leb operator 1 ≡ true
+  pub rest : (eqb state waiting || (isZero list && isZero operator)) ≡ true
+  pub state-right : stateRight state arrived list operator ≡ true
+
+module _ (priority state arrived list operator : ℕ) where
+  pub row-given : rowRight priority state arrived list operator ≡ true → Row priority state arrived list operator
+  unfolding rowRight
+  row-given h =
+      let (p, (a, (l, (o, (r, (s, rest)))))) = given _ h in
+      record { priority-fits = p; arrived-fits = a; list-fits = l; operator-fits = o; rest = r; state-right = s }
+
+  pub row-shown : Row priority state arrived list operator → rowRight priority state arrived list operator ≡ true
+  unfolding rowRight
+  row-shown r =
+      shown _
+      (r .priority-fits, (r .arrived-fits, (r .list-fits, (r .operator-fits, (r .rest, (r .state-right, tt))))))
+
 -- one past it
 unfoldable pub rowZero : ℕ → ℕ → ℕ → ℕ → ℕ → Bool
 rowZero priority state arrived list operator =
@@ -191,31 +214,26 @@ rightAt t i = rowRight (getD (t .priority) i 0) (getD (t .state) i 0) (getD (t .
 abbrev zeroAt : Table → ℕ → Bool
 zeroAt t i = rowZero (getD (t .priority) i 0) (getD (t .state) i 0) (getD (t .arrived) i 0) (getD (t .list) i 0) (getD (t .operator) i 0)
 
+abbrev pub RowAt : Table → ℕ → Type 0
+RowAt t i = Row (getD (t .priority) i 0) (getD (t .state) i 0) (getD (t .arrived) i 0) (getD (t .list) i 0) (getD (t .operator) i 0)
+
 module _ (t : Table) (r : Rules t) where
   tasks-gathered : tasksRight (t .tasks) (t .priority) (t .state) (t .arrived) (t .list) (t .operator) ≡ true
-  unfolding tasksRight rowFits rowRight rowZero prioritiesInRange listsInRange operatorsInRange restRight statesRight zeroPast zeroPastCounts
+  unfolding tasksRight rowFits rowZero prioritiesInRange listsInRange operatorsInRange restRight statesRight zeroPast zeroPastCounts
   tasks-gathered = below-all _ taskRoom (λ i k. go i k (ltb i (t .tasks)) refl)
     where
       go : (i : ℕ) → i < taskRoom → (b : Bool) → ltb i (t .tasks) ≡ b → cond (ltb i (t .tasks)) (rightAt t i) (zeroAt t i) ≡ true
       go i k true e =
           let l = ltb-true i (t .tasks) e in
           rw e
-          (shown _ (
-            within-at _ _ _ i (r .priorities) l k,
-            (
-              within-at _ _ _ i (r .events) l k,
-              (
-                within-at _ _ _ i (r .lists) l k,
-                (
-                  within-at _ _ _ i (r .operators) l k,
-                  (
-                    within-at _ _ _ i (r .rest) l k,
-                    (within-at _ _ _ i (r .states) l k, tt),
-                  ),
-                ),
-              ),
-            ),
-          ))
+          (row-shown _ _ _ _ _ (record {
+            priority-fits = within-at _ _ _ i (r .priorities) l k;
+            arrived-fits = within-at _ _ _ i (r .events) l k;
+            list-fits = within-at _ _ _ i (r .lists) l k;
+            operator-fits = within-at _ _ _ i (r .operators) l k;
+            rest = within-at _ _ _ i (r .rest) l k;
+            state-right = within-at _ _ _ i (r .states) l k;
+          }))
       go i k false e =
           let l = ltb-false i (t .tasks) e in
           let (p, (s, (a, (w, (o, rest))))) = given _ (r .past-counts) in
@@ -261,9 +279,9 @@ module _ (t : Table) (r : Rules t) where
 
 module _ (t : Table) (right : tasksRight (t .tasks) (t .priority) (t .state) (t .arrived) (t .list) (t .operator) ≡ true) where
   -- below the count it is right, past it zero
-  pub row-right : (i : ℕ) → i < t .tasks → i < taskRoom → rightAt t i ≡ true
+  pub row-right : (i : ℕ) → i < t .tasks → i < taskRoom → RowAt t i
   unfolding tasksRight rowFits
-  row-right i l k = simp (lt-ltb i (t .tasks) l) at (below-at _ taskRoom i right k)
+  row-right i l k = row-given _ _ _ _ _ (simp (lt-ltb i (t .tasks) l) at (below-at _ taskRoom i right k))
 
   pub row-zero : (i : ℕ) → t .tasks ≤ i → i < taskRoom → zeroAt t i ≡ true
   unfolding tasksRight rowFits
@@ -315,7 +333,7 @@ parts-of t v =
         rw e (both (le-leb (held (t .holder)) (t .tasks) (omega arith)) h)
 
 module _ (t : Table) (p : Parts t) where
-  right : (i : ℕ) → i < t .tasks → i < taskRoom → rightAt t i ≡ true
+  right : (i : ℕ) → i < t .tasks → i < taskRoom → RowAt t i
   right = row-right t (p .tasks)
 
   behind-count : (i : ℕ) → t .tasks ≤ i → i < taskRoom → zeroAt t i ≡ true
@@ -384,16 +402,16 @@ module _ (t : Table) (p : Parts t) where
       go false e = rw e refl
 
   rules-gathered : Rules t
-  unfolding prioritiesInRange boundsInRange listsInRange operatorsInRange holdersInRange zeroPast zeroPastCounts zeroPastLengths restRight statesRight oneHolder lengthsRight electedRight rowRight rowZero queueRight
+  unfolding prioritiesInRange boundsInRange listsInRange operatorsInRange holdersInRange zeroPast zeroPastCounts zeroPastLengths restRight statesRight oneHolder lengthsRight electedRight rowZero queueRight
   rules-gathered =
       record {
         shape = p .shape;
         counts = p .counts;
-        priorities = within-all _ _ _ (λ i l k. given _ (right i l k) .0);
+        priorities = within-all _ _ _ (λ i l k. right i l k .priority-fits);
         bounds = within-all _ _ _ (λ q l k. and-left _ _ (used q l k));
-        events = within-all _ _ _ (λ i l k. given _ (right i l k) .1 .0);
-        lists = within-all _ _ _ (λ i l k. given _ (right i l k) .1 .1 .0);
-        operators = within-all _ _ _ (λ i l k. given _ (right i l k) .1 .1 .1 .0);
+        events = within-all _ _ _ (λ i l k. right i l k .arrived-fits);
+        lists = within-all _ _ _ (λ i l k. right i l k .list-fits);
+        operators = within-all _ _ _ (λ i l k. right i l k .operator-fits);
         holders = within-all _ _ _ (λ i l k. entry-fits i k);
         criteria = p .criteria;
         past-counts =
@@ -420,8 +438,8 @@ module _ (t : Table) (p : Parts t) where
               ),
             );
         past-lengths = below-all _ queueRoom (λ q k. and-right (boundFits (t .queues) q (boundOf t q) (lengthOf t q)) _ (queue-fits q k));
-        rest = within-all _ _ _ (λ i l k. given _ (right i l k) .1 .1 .1 .1 .0);
-        states = within-all _ _ _ (λ i l k. given _ (right i l k) .1 .1 .1 .1 .1 .0);
+        rest = within-all _ _ _ (λ i l k. right i l k .rest);
+        states = within-all _ _ _ (λ i l k. right i l k .state-right);
         one-holder = within-all _ _ _ (λ i l k. same-holder i k);
         holder-ready = holder-is-ready;
         holder-elected = holder-is-elected;
@@ -459,13 +477,21 @@ valid-is t s =
 
 pub waits-unmet : (t : Table) → valid t ≡ true → (i : ℕ) → i < t .tasks → isWaiting (taskOf t i) ≡ true
     → met (taskOf t i .operator) (taskOf t i .list) (taskOf t i .arrived) ≡ false
-unfolding countsInRange rowRight
+unfolding countsInRange
 waits-unmet t v i l w =
     let p = parts-of t v in
     let k : i < taskRoom = omega (arith, leb-true (t .tasks) taskRoom (given _ (p .counts) .1 .0)) in
     let two : taskOf t i .state ≡ waiting = eqb-true _ waiting w in
-    let state = given _ (row-right t (p .tasks) i l k) .1 .1 .1 .1 .1 .0 in
+    let state = row-right t (p .tasks) i l k .state-right in
     not-true _ (and-right (not (isZero (taskOf t i .list))) _ (rw two at state))
+
+-- the counts' ends
+pub counts-fit : (tasks regions queues : ℕ) → countsInRange tasks regions queues ≡ true
+    → (tasks ≤ taskRoom) × (regions ≤ regionRoom) × (queues ≤ queueRoom)
+unfolding countsInRange
+counts-fit tasks regions queues h =
+    let g = given _ h in
+    (leb-true tasks taskRoom (g .1 .0), leb-true regions regionRoom (g .1 .1 .0), leb-true queues queueRoom (g .1 .1 .1 .0))
 
 -- ---- what a valid table says of one queue
 
@@ -491,3 +517,24 @@ sound t p q k =
         omega (arith, leb-true (lengthOf t q) (boundOf t q) (and-right (boundInRange (boundOf t q)) _ u))
     short false e =
         omega (arith, eqb-true (lengthOf t q) 0 (and-right (isZero (boundOf t q)) _ (unused t p q (ltb-false q (t .queues) e) k)))
+
+-- the bound of a queue below the count
+pub bound-below : (t : Table) → Parts t → (q : ℕ) → q < t .queues → q < queueRoom → boundOf t q ≤ places
+bound-below t p q l k = leb-true (boundOf t q) places (and-right (ltb 0 (boundOf t q)) _ (and-left _ _ (used t p q l k)))
+
+-- ---- who runs
+
+-- the elected task, if there is one, is ready, and so below the count
+pub elected-ready : (t : Table) → Parts t → t .elected ≢ nobody → readyAt (t .state) (t .elected) ≡ true
+unfolding election holderRight bestReady isBest
+elected-ready t p n = rw (p .elected) (go (isZero (held (t .holder))) refl)
+  where
+    best : lowest taskRoom (isBest (t .state) (t .priority)) ≢ nobody → readyAt (t .state) (lowest taskRoom (isBest (t .state) (t .priority))) ≡ true
+    best m = ⊎-elim (λ q. absurd (m (q .0))) (λ q. and-left _ _ (q .passing)) (lowest-is (isBest (t .state) (t .priority)) taskRoom (omega arith))
+
+    go : (b : Bool) → isZero (held (t .holder)) ≡ b → readyAt (t .state) (electionOf t) ≡ true
+    go true e = rw e (best (λ z. n (p .elected ∙ rw e z)))
+    go false e = rw e (and-right (leb (held (t .holder)) (t .tasks)) _ (rw e at (p .holder)))
+
+pub elected-below : (t : Table) → Parts t → t .elected ≢ nobody → t .elected < t .tasks
+elected-below t p n = ready-below t (p .tasks) (state-length t (p .shape)) (t .elected) (elected-ready t p n)

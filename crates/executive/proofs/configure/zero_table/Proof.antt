@@ -1,0 +1,15 @@
+use borrow.Author.Needs.{needs}
+use native.Mathlib.Omega.{arith}
+use mathlib.Core.Path.{refl}
+use Rattle.rules.specs.Fresh.{zeroTable}
+use Rattle.executive.proofs.configure.zero_table.Statement.{statement}
+use Rattle.executive.proofs.configure.zero_table.Tie as tie
+use Rattle.executive.proofs.configure.zero_table.Reads as reads
+use Rattle.executive.proofs.configure.zero_table.Lts as lts
+
+returns : tie.Need-returns
+unfolding zeroTable
+returns c = refl
+
+pub zero-table-spec : {M : Type 1} → statement M
+zero-table-spec = tie.close (tie.spec returns)

@@ -1,0 +1,19 @@
+use borrow.Author.Needs.{needs}
+use native.Mathlib.Omega.{arith}
+use mathlib.Core.Path.{refl}
+use lib.Bits.{and-le-l}
+use Rattle.rules.specs.Events.{cleared}
+use Rattle.executive.proofs.effect.cleared_by.Statement.{statement}
+use Rattle.executive.proofs.effect.cleared_by.Tie as tie
+use Rattle.executive.proofs.effect.cleared_by.Reads as reads
+use Rattle.executive.proofs.effect.cleared_by.Lts as lts
+
+sub-t4 : tie.Need-sub-t4
+sub-t4 c = and-le-l _ _
+
+returns : tie.Need-returns
+unfolding cleared
+returns c = refl
+
+pub cleared-by-spec : {M : Type 1} → statement M
+cleared-by-spec = tie.close (tie.spec sub-t4 returns)

@@ -1,0 +1,19 @@
+use borrow.Author.Needs.{needs}
+use native.Mathlib.Omega.{arith}
+use Rattle.executive.proofs.queries.object_status.Statement.{statement}
+use Rattle.executive.proofs.queries.object_status.Tie as tie
+use Rattle.executive.proofs.queries.object_status.Reads as reads
+use Rattle.executive.proofs.queries.object_status.Lts as lts
+use Rattle.executive.proofs.answer.pick.Reads as pick-reads
+
+pick-requires : tie.Need-pick-requires
+pick-requires c κs = search needs
+
+pick-requires-2 : tie.Need-pick-requires-2
+pick-requires-2 c κs = search needs
+
+returns : tie.Need-returns
+returns c = rw (c .pick2 .ensures, c .before .pick .ensures)
+
+pub object-status-spec : {M : Type 1} → statement M
+object-status-spec = tie.close (tie.spec pick-requires pick-requires-2 returns)

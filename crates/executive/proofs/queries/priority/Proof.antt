@@ -1,0 +1,41 @@
+use borrow.Author.Needs.{needs}
+use native.Mathlib.Omega.{arith}
+use mathlib.Core.Path.{_≡_, _∙_}
+use Rattle.executive.proofs.Replied.{priority-is}
+use Rattle.executive.proofs.queries.priority.Statement.{statement}
+use Rattle.executive.proofs.queries.priority.Tie as tie
+use Rattle.executive.proofs.queries.priority.Reads as reads
+use Rattle.executive.proofs.queries.priority.Lts as lts
+use Rattle.executive.proofs.queries.object_status.Reads as object-status-reads
+use Rattle.executive.proofs.queries.reply_of.Reads as reply-of-reads
+use Rattle.executive.proofs.refusal.state_at.Reads as state-at-reads
+use Rattle.executive.proofs.validity.valid_of.Reads as valid-of-reads
+
+valid-of-requires : tie.Need-valid-of-requires
+valid-of-requires c κs = search needs
+
+object-status-requires : tie.Need-object-status-requires
+object-status-requires c κs = search needs
+
+state-at-requires : tie.Need-state-at-requires
+state-at-requires c κs = search needs
+
+cast-reply-of : tie.Need-cast-reply-of
+cast-reply-of c = search needs
+
+reply-of-requires : tie.Need-reply-of-requires
+reply-of-requires c κs = search needs
+
+returns : tie.Need-returns
+returns c = c .reply-of .ensures ∙ priority-is _ _ _ (c .before .before .before .before .before .valid-of .ensures) _ _ (c .before .before .before .before .object-status .ensures) (c .before .state-at .ensures)
+
+pub priority-spec : {M : Type 1} → statement M
+priority-spec =
+    tie.close
+    (tie.spec
+    valid-of-requires
+    object-status-requires
+    state-at-requires
+    cast-reply-of
+    reply-of-requires
+    returns)

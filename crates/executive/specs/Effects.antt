@@ -1,0 +1,25 @@
+-- The first six operations as one change of one task, and ENTER and EXIT as one change of one region's entry, for the code's shape.
+use Prim.Native.Nat.{ℕ, suc, _%_}
+use mathlib.Core.Bool.{cond}
+use lib.Dec.{eqb, ltb}
+use Rattle.rules.specs.declared.Task.{Task}
+use Rattle.rules.specs.declared.Call.{Call}
+use Rattle.rules.specs.Numbers.{START, SIGNAL, WAIT, CLEAR, ENTER}
+use Rattle.rules.specs.Tasks.{asStarted, asStopped, signalled, waited, asCleared}
+use Rattle.rules.specs.Regions.{entered, exited}
+
+-- which task a call changes
+unfoldable pub target : Call → ℕ
+target c = cond (ltb (c .operation) 2) (c .a) (cond (eqb (c .operation) SIGNAL) (c .b) (c .caller))
+
+-- the task after the call; an accepted call's numbers fit, so that the remainders change nothing
+unfoldable pub taskAfter : Call → Task → Task
+taskAfter c r =
+    cond (eqb (c .operation) START) (asStarted r)
+    (cond (eqb (c .operation) SIGNAL) (signalled (c .a % 16) r)
+    (cond (eqb (c .operation) WAIT) (waited (c .a % 65536) (c .b % 256) r)
+    (cond (eqb (c .operation) CLEAR) (asCleared (c .a % 65536) r) (asStopped r))))
+
+-- a region's entry after ENTER or EXIT
+unfoldable pub holderAfter : Call → ℕ → ℕ
+holderAfter c h = cond (eqb (c .operation) ENTER) (entered (c .caller) h) (exited (c .caller) h)

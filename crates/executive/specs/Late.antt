@@ -1,0 +1,30 @@
+-- The reasons from 14 on, as the code tests them over lent arrays: of a valid table they are the rules' own.
+use Prim.Native.Nat.{ℕ, _+_, _*_}
+use mathlib.Core.Bool.{Bool, false, cond, not, _&&_}
+use mathlib.Core.List.{List, [], _∷_}
+use lib.Dec.{eqb, ltb, leb}
+use lib.ListN.{getD}
+use Rattle.rules.specs.declared.Call.{Call}
+use Rattle.rules.specs.Numbers.{queueRoom, places, WAIT, SEND, RETRIEVE}
+use Rattle.rules.specs.Words.{isZero, Reason, when}
+use Rattle.rules.specs.Regions.{held}
+use Rattle.rules.specs.Refusals.{missing, badOperator, wrongState, leaves}
+use Rattle.queues.specs.Places.{placeIn}
+
+-- 18 by places of the store: the place found is the end of the queue
+unfoldable pub lacking : List ℕ → List ℕ → Call → Bool
+lacking lengths criterion c =
+    cond (eqb (c .operation) RETRIEVE && ltb (c .a) queueRoom)
+    (leb (c .a * places + getD lengths (c .a) 0)
+    (placeIn (c .a * places) (c .a * places + getD lengths (c .a) 0) (c .c) criterion))
+    false
+
+unfoldable pub lateFlags : ℕ → ℕ → ℕ → List ℕ → List ℕ → List ℕ → List ℕ → List ℕ → Call → List Reason
+lateFlags tasks regions queues state holder bound lengths criterion c =
+    when 14 (missing tasks regions queues c)
+    ∷ when 19 (eqb (c .operation) WAIT && badOperator (c .b))
+    ∷ when 15 (wrongState state c)
+    ∷ when 16 (leaves c && not (isZero (held holder)))
+    ∷ when 17 (eqb (c .operation) SEND && leb (getD bound (c .a) 0) (getD lengths (c .a) 0))
+    ∷ when 18 (lacking lengths criterion c)
+    ∷ []

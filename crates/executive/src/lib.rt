@@ -1,0 +1,18 @@
+// The executive: a fresh table, one call, and five queries. Every table and every call gets an answer, and each answer is the one that the
+// rules give.
+mod answer;
+mod calls;
+mod configure;
+mod counts;
+mod effect;
+mod queries;
+mod refusal;
+mod validity;
+
+pub use calls::call;
+pub use configure::fresh;
+pub use queries::arrived;
+pub use queries::empty;
+pub use queries::full;
+pub use queries::priority;
+pub use queries::state;

@@ -1,0 +1,92 @@
+-- One task: the test without branches is the test by state; and the lesser of two priorities.
+use Prim.Native.Nat.{ℕ, zero, suc, _<_, min}
+use mathlib.Core.Path.{_≡_, refl, ap₂, _∙_}
+use mathlib.Core.Bool.{Bool, true, false, cond, not, _&&_, _||_, or-false, and-true, false≢true}
+use native.Mathlib.Omega.{arith}
+use lib.Dec.{eqb, ltb, leb}
+use borrow.Author.Tests.{eqb-true, ne-eqb, lt-ltb, le-leb, leb-true, ltb-true, ltb-false}
+use Rattle.rules.specs.Words.{isZero, all}
+use Rattle.rules.specs.Events.{met}
+use Rattle.rules.proofs.Bools.{and-left, and-right, both, same-test}
+use Rattle.rules.specs.Validity.{stateRight}
+use Rattle.rules.proofs.Validity.{rowRight, row-given, row-shown, rowZero}
+
+-- one of two, as the code picks it
+pub picked : (b x y : Bool) → ((b && x) || (not b && y)) ≡ cond b x y
+picked true x y = or-false x
+picked false x y = refl
+
+pub picked-is : (b : Bool) {x y x′ y′ : Bool} → x ≡ x′ → y ≡ y′ → ((b && x) || (not b && y)) ≡ cond b x′ y′
+picked-is b {x} {y} p q = picked b x y ∙ ap₂ (cond b) p q
+
+-- the lesser of two, where the first counts only if b
+pub lesser-first : (b : Bool) (q p : ℕ) → (b && ltb q p) ≡ true → q ≡ cond b (min q p) p
+lesser-first true q p h = let l = ltb-true q p h in omega arith
+lesser-first false q p h = absurd (false≢true h)
+
+pub lesser-second : (b : Bool) (q p : ℕ) → (b && ltb q p) ≡ false → p ≡ cond b (min q p) p
+lesser-second true q p h = let l = ltb-false q p h in omega arith
+lesser-second false q p h = refl
+
+module _ (priority arrived list operator : ℕ) (p : priority < 256) (a : arrived < 65536) (l : list < 65536) where
+  idle : Bool
+  idle = isZero list && isZero operator
+
+  -- an operator that is 0 is in range
+  operator-fits : idle ≡ true → leb operator 1 ≡ true
+  unfolding idle
+  operator-fits h = le-leb operator 1 (omega (arith, eqb-true operator 0 (and-right (isZero list) _ h)))
+
+  fits : (state : ℕ) → leb operator 1 ≡ true → (eqb state 2 || idle) ≡ true → stateRight state arrived list operator ≡ true
+      → rowRight priority state arrived list operator ≡ true
+  unfolding idle
+  fits state o r s =
+      row-shown priority state arrived list operator
+      (record {
+        priority-fits = lt-ltb priority 256 p;
+        arrived-fits = lt-ltb arrived 65536 a;
+        list-fits = lt-ltb list 65536 l;
+        operator-fits = o;
+        rest = r;
+        state-right = s;
+      })
+
+  -- below the count
+  pub right-is : (state : ℕ) (m : Bool) → m ≡ met operator list arrived
+      → ((eqb state 0 && (isZero arrived && (isZero list && isZero operator)))
+      || ((eqb state 1 && (isZero list && isZero operator))
+      || (eqb state 2 && (not (isZero list) && (ltb operator 2 && not m)))))
+      ≡ rowRight priority state arrived list operator
+  unfolding idle
+  right-is zero m e =
+      or-false _
+      ∙ same-test _ (rowRight priority 0 arrived list operator)
+      (λ h. let i = and-right (isZero arrived) idle h in fits 0 (operator-fits i) i (and-left _ _ h))
+      (λ h. let r = row-given priority 0 arrived list operator h in both (r .state-right) (r .rest))
+  right-is (suc zero) m e =
+      or-false _
+      ∙ same-test _ (rowRight priority 1 arrived list operator)
+      (λ h. fits 1 (operator-fits h) h refl)
+      (λ h. row-given priority 1 arrived list operator h .rest)
+  right-is (suc (suc zero)) m e =
+      rw e
+      (same-test _ (rowRight priority 2 arrived list operator)
+      (λ h.
+      let waits = and-right (not (isZero list)) _ h in
+      let o = le-leb operator 1 (omega (arith, ltb-true operator 2 (and-left _ _ waits))) in
+      fits 2 o refl (both (and-left (not (isZero list)) _ h) (and-right (ltb operator 2) _ waits)))
+      (λ h.
+      let r = row-given priority 2 arrived list operator h in
+      let o = lt-ltb operator 2 (omega (arith, leb-true operator 1 (r .operator-fits))) in
+      both (and-left (not (isZero list)) (not (met operator list arrived)) (r .state-right)) (both o (and-right (not (isZero list)) _ (r .state-right)))))
+  right-is (suc (suc (suc more))) m e =
+      rw (ne-eqb (suc (suc (suc more))) 0 (omega arith), ne-eqb (suc (suc (suc more))) 1 (omega arith), ne-eqb (suc (suc (suc more))) 2 (omega arith))
+      (same-test false (rowRight priority (suc (suc (suc more))) arrived list operator) (λ h. absurd (false≢true h))
+      (λ h. absurd (false≢true (row-given priority (suc (suc (suc more))) arrived list operator h .state-right))))
+
+-- past it
+pub zero-is : (priority state arrived list operator : ℕ)
+    → (isZero priority && (isZero state && (isZero arrived && (isZero list && isZero operator))))
+    ≡ rowZero priority state arrived list operator
+unfolding rowZero all
+zero-is priority state arrived list operator = simp and-true

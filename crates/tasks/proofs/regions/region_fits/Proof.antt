@@ -1,0 +1,14 @@
+use borrow.Author.Needs.{needs}
+use native.Mathlib.Omega.{arith}
+use Rattle.rules.proofs.Validity.{regionFits}
+use Rattle.tasks.proofs.regions.region_fits.Statement.{statement}
+use Rattle.tasks.proofs.regions.region_fits.Tie as tie
+use Rattle.tasks.proofs.regions.region_fits.Reads as reads
+use Rattle.tasks.proofs.regions.region_fits.Lts as lts
+
+returns : tie.Need-returns
+unfolding regionFits
+returns c = search needs
+
+pub region-fits-spec : {M : Type 1} → statement M
+region-fits-spec = tie.close (tie.spec returns)

@@ -1,0 +1,13 @@
+// What the executive asks of tasks and regions: the condition, the check of the columns, the holder and the election.
+mod check;
+mod condition;
+mod elect;
+mod regions;
+
+pub use check::tasks_right;
+pub use condition::met_by;
+pub use elect::best_ready;
+pub use elect::elected_by;
+pub use regions::held_by;
+pub use regions::holder_right;
+pub use regions::regions_right;

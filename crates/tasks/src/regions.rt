@@ -1,0 +1,52 @@
+// Regions and their holder: who holds, whether all occupied regions agree, whether the holder is a ready task.
+ghost use mathlib.Core.Path.{_≡_};
+ghost use lib.ListN.{length};
+ghost use Rattle.rules.specs.Regions.{held};
+ghost use Rattle.rules.proofs.Validity.{regionFits, regionsRight, holderRight};
+
+// The first occupied region's entry, 0 where all are free.
+pub fn held_by(holder: &[u8; 16]) -> u8
+    requires { ⌜ length (now holder) ≡ 16 ⌝ }
+    ensures { λ r. ⌜ r ≡ held (now (holder .entry)) ⌝ }
+{
+    for i in 0..16 {
+        if holder[i] != 0 {
+            return holder[i];
+        }
+    }
+    0
+}
+
+fn region_fits(regions: u8, v: u8, i: usize, h: u8) -> bool
+    ensures { λ r. ⌜ r ≡ regionFits regions v i h ⌝ }
+{
+    (h == 0) | ((i < (regions as usize)) & (h == v))
+}
+
+// Every occupied region lies below the count and has the entry v.
+pub fn regions_right(regions: u8, v: u8, holder: &[u8; 16]) -> bool
+    requires { ⌜ length (now holder) ≡ 16 ⌝ }
+    ensures { λ r. ⌜ r ≡ regionsRight regions v (now (holder .entry)) ⌝ }
+{
+    let mut ok = true;
+    for i in 0..16 {
+        let fits = region_fits(regions, v, i, holder[i]);
+        ok = ok & fits;
+    }
+    ok
+}
+
+// The holder behind the entry v, if there is one, is a task of the table and ready.
+pub fn holder_right(tasks: u8, state: &[u8; 32], v: u8) -> bool
+    requires { ⌜ length (now state) ≡ 32 ⌝ }
+    ensures { λ r. ⌜ r ≡ holderRight tasks (now (state .entry)) v ⌝ }
+{
+    if v == 0 {
+        return true;
+    }
+    if tasks < v {
+        return false;
+    }
+    let i = (v - 1) as usize;
+    if i < 32 { state[i] == 1 } else { false }
+}
