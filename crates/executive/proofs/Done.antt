@@ -30,7 +30,7 @@ use Rattle.rules.proofs.Refusals.{Accepted, accepted-facts}
 use Rattle.queues.specs.Places.{placeIn, closedIn}
 use Rattle.queues.proofs.Places.{place-is, none-is, given-is, taken-is}
 use Rattle.executive.specs.Effects.{target, taskAfter, holderAfter}
-use Rattle.executive.proofs.Refused.{room, send-there, retrieve-there}
+use Rattle.refusals.proofs.Refused.{room, send-there, retrieve-there}
 use Rattle.executive.proofs.Accepted.{task-effect, region-effect}
 
 -- ---- refused

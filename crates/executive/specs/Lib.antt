@@ -1,6 +1,4 @@
--- The definitions that this crate cites beside those of the rules, for contracts over lent arrays and for the shape of the code.
-pub mod Lent
-pub mod Late
+-- The definitions that this crate's inner contracts cite beside those of the rules, for the shape of the code.
 pub mod Effects
 pub mod Fresh
 pub mod Replies

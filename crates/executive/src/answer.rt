@@ -1,13 +1,8 @@
-// Small parts of every answer: one of two numbers, and the elected task that an answer reports.
+// The elected task that an answer reports.
+use refusals::pick;
 ghost use mathlib.Core.Path.{_≡_};
 ghost use mathlib.Core.Bool.{cond, _||_};
 ghost use lib.Dec.{eqb};
-
-pub(crate) fn pick(b: bool, x: u8, y: u8) -> u8
-    ensures { λ r. ⌜ r ≡ cond b x y ⌝ }
-{
-    if b { x } else { y }
-}
 
 // 255 where the list of statuses says so, at 10 and 20; else the table's own.
 pub(crate) fn reported_by(status: u8, elected: u8) -> u8

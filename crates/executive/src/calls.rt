@@ -1,13 +1,13 @@
 // One call: refused with the first reason that applies, or done and the elected task found afresh.
-use super::answer::pick;
 use super::answer::reported_by;
 use super::effect::holder_after;
 use super::effect::target_of;
 use super::effect::task_after;
-use super::refusal::refusal_of;
 use queues::close_criteria;
 use queues::close_elements;
 use queues::place_of;
+use refusals::pick;
+use refusals::refusal_of;
 use rules::Answer;
 use rules::Call;
 use rules::Done;

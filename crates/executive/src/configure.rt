@@ -1,5 +1,5 @@
 // A fresh table from a configuration: counts, priorities and bounds.
-use super::counts::counts_right;
+use refusals::counts_right;
 use rules::Answer;
 use rules::Done;
 use rules::Table;

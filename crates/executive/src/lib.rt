@@ -3,11 +3,8 @@
 mod answer;
 mod calls;
 mod configure;
-mod counts;
 mod effect;
 mod queries;
-mod refusal;
-mod validity;
 
 pub use calls::call;
 pub use configure::fresh;

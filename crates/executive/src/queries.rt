@@ -1,9 +1,9 @@
 // The five queries: each answers and changes nothing.
-use super::answer::pick;
 use super::answer::reported_by;
-use super::refusal::entry_at;
-use super::refusal::state_at;
-use super::validity::valid_of;
+use refusals::entry_at;
+use refusals::pick;
+use refusals::state_at;
+use refusals::valid_of;
 use rules::Answer;
 use rules::Table;
 use tasks::met_by;
@@ -13,6 +13,7 @@ ghost use mathlib.Core.List.{[], _∷_};
 ghost use lib.Dec.{eqb};
 ghost use lib.ListN.{length, getD};
 ghost use Rattle.rules.specs.Words.{when, first};
+ghost use Rattle.rules.specs.Validity.{valid};
 ghost use Rattle.rules.specs.Refusals.{absent, badList, badOperator};
 ghost use Rattle.rules.specs.Queries.{oneIf, arrivedQuery, emptyQuery, fullQuery, priorityQuery, stateQuery};
 ghost use Rattle.executive.specs.Replies.{replyBy};
@@ -71,11 +72,11 @@ fn arrived_status(ok: bool, elected: u8, caller: u8, list: u32, operator: u32) -
     pick(!ok, 10, r12)
 }
 
-// ARRIVED: 1 if the condition on the caller's events is met.
-pub fn arrived(t: Table, caller: u8, list: u32, operator: u32) -> Answer
-    ensures { λ r. ⌜ r ≡ arrivedQuery t caller list operator ⌝ }
+// The queries are no hurry, so that the table is handed over whole.
+fn is_valid(t: Table) -> bool
+    ensures { λ r. ⌜ r ≡ valid t ⌝ }
 {
-    let ok = valid_of(
+    valid_of(
         t.tasks,
         t.regions,
         t.queues,
@@ -90,7 +91,14 @@ pub fn arrived(t: Table, caller: u8, list: u32, operator: u32) -> Answer
         &t.length,
         &t.element,
         &t.criterion,
-    );
+    )
+}
+
+// ARRIVED: 1 if the condition on the caller's events is met.
+pub fn arrived(t: Table, caller: u8, list: u32, operator: u32) -> Answer
+    ensures { λ r. ⌜ r ≡ arrivedQuery t caller list operator ⌝ }
+{
+    let ok = is_valid(t);
     let status = arrived_status(ok, t.elected, caller, list, operator);
     let events = events_at(&t.arrived, caller);
     let met = met_by((operator % 256) as u8, (list % 65536) as u16, events);
@@ -101,22 +109,7 @@ pub fn arrived(t: Table, caller: u8, list: u32, operator: u32) -> Answer
 pub fn empty(t: Table, queue: u32) -> Answer
     ensures { λ r. ⌜ r ≡ emptyQuery t queue ⌝ }
 {
-    let ok = valid_of(
-        t.tasks,
-        t.regions,
-        t.queues,
-        t.elected,
-        &t.priority,
-        &t.state,
-        &t.arrived,
-        &t.list,
-        &t.operator,
-        &t.holder,
-        &t.bound,
-        &t.length,
-        &t.element,
-        &t.criterion,
-    );
+    let ok = is_valid(t);
     let status = object_status(ok, t.queues, queue);
     let n = entry_at(&t.length, queue);
     reply_of(status, one_if(n == 0), t.elected)
@@ -126,22 +119,7 @@ pub fn empty(t: Table, queue: u32) -> Answer
 pub fn full(t: Table, queue: u32) -> Answer
     ensures { λ r. ⌜ r ≡ fullQuery t queue ⌝ }
 {
-    let ok = valid_of(
-        t.tasks,
-        t.regions,
-        t.queues,
-        t.elected,
-        &t.priority,
-        &t.state,
-        &t.arrived,
-        &t.list,
-        &t.operator,
-        &t.holder,
-        &t.bound,
-        &t.length,
-        &t.element,
-        &t.criterion,
-    );
+    let ok = is_valid(t);
     let status = object_status(ok, t.queues, queue);
     let most = entry_at(&t.bound, queue);
     let n = entry_at(&t.length, queue);
@@ -152,22 +130,7 @@ pub fn full(t: Table, queue: u32) -> Answer
 pub fn priority(t: Table, task: u32) -> Answer
     ensures { λ r. ⌜ r ≡ priorityQuery t task ⌝ }
 {
-    let ok = valid_of(
-        t.tasks,
-        t.regions,
-        t.queues,
-        t.elected,
-        &t.priority,
-        &t.state,
-        &t.arrived,
-        &t.list,
-        &t.operator,
-        &t.holder,
-        &t.bound,
-        &t.length,
-        &t.element,
-        &t.criterion,
-    );
+    let ok = is_valid(t);
     let status = object_status(ok, t.tasks, task);
     let p = state_at(&t.priority, task);
     reply_of(status, p as u32, t.elected)
@@ -177,22 +140,7 @@ pub fn priority(t: Table, task: u32) -> Answer
 pub fn state(t: Table, task: u32) -> Answer
     ensures { λ r. ⌜ r ≡ stateQuery t task ⌝ }
 {
-    let ok = valid_of(
-        t.tasks,
-        t.regions,
-        t.queues,
-        t.elected,
-        &t.priority,
-        &t.state,
-        &t.arrived,
-        &t.list,
-        &t.operator,
-        &t.holder,
-        &t.bound,
-        &t.length,
-        &t.element,
-        &t.criterion,
-    );
+    let ok = is_valid(t);
     let status = object_status(ok, t.tasks, task);
     let s = state_at(&t.state, task);
     reply_of(status, s as u32, t.elected)

@@ -8,7 +8,7 @@ use Rattle.rules.specs.declared.Call.{Call}
 use Rattle.rules.specs.Numbers.{SEND, RETRIEVE}
 use Rattle.rules.specs.Refusals.{refusal}
 use Rattle.rules.proofs.Refusals.{Accepted, accepted-facts}
-use Rattle.executive.specs.Lent.{Lengths}
+use Rattle.refusals.specs.Lent.{Lengths}
 use Rattle.executive.specs.Effects.{target}
 use Rattle.executive.proofs.Accepted.{target-below, tasks-fit, region-there, regions-fit, caller-below}
 use Rattle.executive.proofs.Done.{Fits, refused-done, task-done, region-done, free, send-done, found, retrieve-done, retrieve-is, retrieve-some, queue-fits}
@@ -16,15 +16,15 @@ use Rattle.executive.proofs.calls.call.Statement.{statement}
 use Rattle.executive.proofs.calls.call.Tie as tie
 use Rattle.executive.proofs.calls.call.Reads as reads
 use Rattle.executive.proofs.calls.call.Lts as lts
-use Rattle.executive.proofs.answer.pick.Reads as pick-reads
 use Rattle.executive.proofs.answer.reported_by.Reads as reported-by-reads
 use Rattle.executive.proofs.effect.holder_after.Reads as holder-after-reads
 use Rattle.executive.proofs.effect.target_of.Reads as target-of-reads
 use Rattle.executive.proofs.effect.task_after.Reads as task-after-reads
-use Rattle.executive.proofs.refusal.refusal_of.Reads as refusal-of-reads
 use Rattle.queues.proofs.close_criteria.Reads as close-criteria-reads
 use Rattle.queues.proofs.close_elements.Reads as close-elements-reads
 use Rattle.queues.proofs.place_of.Reads as place-of-reads
+use Rattle.refusals.proofs.pick.Reads as pick-reads
+use Rattle.refusals.proofs.refusal_of.Reads as refusal-of-reads
 use Rattle.tasks.proofs.met_by.Reads as met-by-reads
 use Rattle.tasks.proofs.elected_by.Reads as elected-by-reads
 use Rattle.tasks.proofs.held_by.Reads as held-by-reads
@@ -61,7 +61,7 @@ is-retrieve : (c : tie.Else1) → 8 ≤ call c .operation → (call c .operation
 is-retrieve c l n = retrieve-is (table c) (call c) (zero c) l n
 
 refusal-of-requires : tie.Need-refusal-of-requires
-refusal-of-requires c κs = search needs
+refusal-of-requires c κs = let l = long (c .before .before .before .before .before .before .before .before .before .before .before) in omega arith
 
 reported-by-requires : tie.Need-reported-by-requires
 reported-by-requires c κs = search needs

@@ -13,7 +13,7 @@ use Rattle.executive.proofs.configure.bounds_right.Reads as bounds-righ
 use Rattle.executive.proofs.configure.fresh_table.Reads as fresh-table-reads
 use Rattle.executive.proofs.configure.out_of_range.Reads as out-of-range-reads
 use Rattle.executive.proofs.configure.priorities_of.Reads as priorities-of-reads
-use Rattle.executive.proofs.counts.counts_right.Reads as counts-right-reads
+use Rattle.refusals.proofs.counts_right.Reads as counts-right-reads
 
 counts-right-requires : tie.Need-counts-right-requires
 counts-right-requires c κs = search needs

@@ -1,6 +1,6 @@
 use borrow.Author.Needs.{needs}
 use native.Mathlib.Omega.{arith}
-use Rattle.executive.proofs.Flags.{bit-is, wakes-is, stays-is}
+use Rattle.executive.proofs.Woken.{bit-is, wakes-is, stays-is}
 use Rattle.executive.proofs.effect.signalled_by.Statement.{statement}
 use Rattle.executive.proofs.effect.signalled_by.Tie as tie
 use Rattle.executive.proofs.effect.signalled_by.Reads as reads

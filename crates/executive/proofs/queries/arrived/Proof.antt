@@ -9,22 +9,22 @@ use Rattle.executive.proofs.queries.arrived.Reads as reads
 use Rattle.executive.proofs.queries.arrived.Lts as lts
 use Rattle.executive.proofs.queries.arrived_status.Reads as arrived-status-reads
 use Rattle.executive.proofs.queries.events_at.Reads as events-at-reads
+use Rattle.executive.proofs.queries.is_valid.Reads as is-valid-reads
 use Rattle.executive.proofs.queries.one_if.Reads as one-if-reads
 use Rattle.executive.proofs.queries.reply_of.Reads as reply-of-reads
-use Rattle.executive.proofs.validity.valid_of.Reads as valid-of-reads
 use Rattle.tasks.proofs.met_by.Reads as met-by-reads
 
 long : (c : tie.Start) → length (c .args .t1 .arrived) ≡ 32
 long c = search needs
 
-valid-of-requires : tie.Need-valid-of-requires
-valid-of-requires c κs = search needs
+is-valid-requires : tie.Need-is-valid-requires
+is-valid-requires c κs = search needs
 
 arrived-status-requires : tie.Need-arrived-status-requires
 arrived-status-requires c κs = search needs
 
 events-at-requires : tie.Need-events-at-requires
-events-at-requires c κs = long (c .before .before .before .before .before .before .before .before .before .before .before .before .before .before .before)
+events-at-requires c κs = long (c .before .before .before .before)
 
 cast-met-by : tie.Need-cast-met-by
 cast-met-by c = search needs
@@ -42,13 +42,13 @@ reply-of-requires : tie.Need-reply-of-requires
 reply-of-requires c κs = search needs
 
 returns : tie.Need-returns
-returns c = c .reply-of .ensures ∙ arrived-is _ _ _ (c .before .before .before .before .before .before .before .valid-of .ensures) _ _ _ _ _ _ (c .before .before .before .before .before .before .arrived-status .ensures) (c .before .before .before .events-at .ensures) (c .before .before .met-by .ensures) (c .before .one-if .ensures)
+returns c = c .reply-of .ensures ∙ arrived-is _ _ _ (c .before .before .before .before .before .before .before .is-valid .ensures) _ _ _ _ _ _ (c .before .before .before .before .before .before .arrived-status .ensures) (c .before .before .before .events-at .ensures) (c .before .before .met-by .ensures) (c .before .one-if .ensures)
 
 pub arrived-spec : {M : Type 1} → statement M
 arrived-spec =
     tie.close
     (tie.spec
-    valid-of-requires
+    is-valid-requires
     arrived-status-requires
     events-at-requires
     cast-met-by

@@ -4,7 +4,7 @@ use Rattle.executive.proofs.queries.arrived_status.Statement.{statement
 use Rattle.executive.proofs.queries.arrived_status.Tie as tie
 use Rattle.executive.proofs.queries.arrived_status.Reads as reads
 use Rattle.executive.proofs.queries.arrived_status.Lts as lts
-use Rattle.executive.proofs.answer.pick.Reads as pick-reads
+use Rattle.refusals.proofs.pick.Reads as pick-reads
 
 pick-requires : tie.Need-pick-requires
 pick-requires c κs = search needs

@@ -7,23 +7,23 @@ use Rattle.executive.proofs.queries.empty.Statement.{statement}
 use Rattle.executive.proofs.queries.empty.Tie as tie
 use Rattle.executive.proofs.queries.empty.Reads as reads
 use Rattle.executive.proofs.queries.empty.Lts as lts
+use Rattle.executive.proofs.queries.is_valid.Reads as is-valid-reads
 use Rattle.executive.proofs.queries.object_status.Reads as object-status-reads
 use Rattle.executive.proofs.queries.one_if.Reads as one-if-reads
 use Rattle.executive.proofs.queries.reply_of.Reads as reply-of-reads
-use Rattle.executive.proofs.refusal.entry_at.Reads as entry-at-reads
-use Rattle.executive.proofs.validity.valid_of.Reads as valid-of-reads
+use Rattle.refusals.proofs.entry_at.Reads as entry-at-reads
 
 long : (c : tie.Start) → length (c .args .t1 .length) ≡ 8
 long c = search needs
 
-valid-of-requires : tie.Need-valid-of-requires
-valid-of-requires c κs = search needs
+is-valid-requires : tie.Need-is-valid-requires
+is-valid-requires c κs = search needs
 
 object-status-requires : tie.Need-object-status-requires
 object-status-requires c κs = search needs
 
 entry-at-requires : tie.Need-entry-at-requires
-entry-at-requires c κs = long (c .before .before .before .before .before .before .before .before .before .before .before .before .before .before .before)
+entry-at-requires c κs = long (c .before .before .before .before)
 
 one-if-requires : tie.Need-one-if-requires
 one-if-requires c κs = search needs
@@ -32,13 +32,13 @@ reply-of-requires : tie.Need-reply-of-requires
 reply-of-requires c κs = search needs
 
 returns : tie.Need-returns
-returns c = c .reply-of .ensures ∙ empty-is _ _ _ (c .before .before .before .before .before .before .valid-of .ensures) _ _ _ (c .before .before .before .before .before .object-status .ensures) (c .before .before .entry-at .ensures) (c .before .one-if .ensures)
+returns c = c .reply-of .ensures ∙ empty-is _ _ _ (c .before .before .before .before .before .before .is-valid .ensures) _ _ _ (c .before .before .before .before .before .object-status .ensures) (c .before .before .entry-at .ensures) (c .before .one-if .ensures)
 
 pub empty-spec : {M : Type 1} → statement M
 empty-spec =
     tie.close
     (tie.spec
-    valid-of-requires
+    is-valid-requires
     object-status-requires
     entry-at-requires
     one-if-requires

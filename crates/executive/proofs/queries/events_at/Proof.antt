@@ -1,7 +1,7 @@
 use borrow.Author.Needs.{needs}
 use native.Mathlib.Omega.{arith}
 use Rattle.rules.proofs.Counts.{ends}
-use Rattle.executive.proofs.Flags.{past-end}
+use Rattle.refusals.proofs.Flags.{past-end}
 use Rattle.executive.proofs.queries.events_at.Statement.{statement}
 use Rattle.executive.proofs.queries.events_at.Tie as tie
 use Rattle.executive.proofs.queries.events_at.Reads as reads

@@ -7,11 +7,11 @@ use Rattle.executive.proofs.queries.full.Statement.{statement}
 use Rattle.executive.proofs.queries.full.Tie as tie
 use Rattle.executive.proofs.queries.full.Reads as reads
 use Rattle.executive.proofs.queries.full.Lts as lts
+use Rattle.executive.proofs.queries.is_valid.Reads as is-valid-reads
 use Rattle.executive.proofs.queries.object_status.Reads as object-status-reads
 use Rattle.executive.proofs.queries.one_if.Reads as one-if-reads
 use Rattle.executive.proofs.queries.reply_of.Reads as reply-of-reads
-use Rattle.executive.proofs.refusal.entry_at.Reads as entry-at-reads
-use Rattle.executive.proofs.validity.valid_of.Reads as valid-of-reads
+use Rattle.refusals.proofs.entry_at.Reads as entry-at-reads
 
 bounds-long : (c : tie.Start) → length (c .args .t1 .bound) ≡ 8
 bounds-long c = search needs
@@ -19,17 +19,17 @@ bounds-long c = search needs
 long : (c : tie.Start) → length (c .args .t1 .length) ≡ 8
 long c = search needs
 
-valid-of-requires : tie.Need-valid-of-requires
-valid-of-requires c κs = search needs
+is-valid-requires : tie.Need-is-valid-requires
+is-valid-requires c κs = search needs
 
 object-status-requires : tie.Need-object-status-requires
 object-status-requires c κs = search needs
 
 entry-at-requires : tie.Need-entry-at-requires
-entry-at-requires c κs = bounds-long (c .before .before .before .before .before .before .before .before .before .before .before .before .before .before .before)
+entry-at-requires c κs = bounds-long (c .before .before .before .before)
 
 entry-at-requires-2 : tie.Need-entry-at-requires-2
-entry-at-requires-2 c κs = long (c .before .before .before .before .before .before .before .before .before .before .before .before .before .before .before .before .before .before)
+entry-at-requires-2 c κs = long (c .before .before .before .before .before .before .before)
 
 one-if-requires : tie.Need-one-if-requires
 one-if-requires c κs = search needs
@@ -38,13 +38,13 @@ reply-of-requires : tie.Need-reply-of-requires
 reply-of-requires c κs = search needs
 
 returns : tie.Need-returns
-returns c = c .reply-of .ensures ∙ full-is _ _ _ (c .before .before .before .before .before .before .before .before .before .valid-of .ensures) _ _ _ _ (c .before .before .before .before .before .before .before .before .object-status .ensures) (c .before .before .before .before .before .entry-at .ensures) (c .before .before .entry-at2 .ensures) (c .before .one-if .ensures)
+returns c = c .reply-of .ensures ∙ full-is _ _ _ (c .before .before .before .before .before .before .before .before .before .is-valid .ensures) _ _ _ _ (c .before .before .before .before .before .before .before .before .object-status .ensures) (c .before .before .before .before .before .entry-at .ensures) (c .before .before .entry-at2 .ensures) (c .before .one-if .ensures)
 
 pub full-spec : {M : Type 1} → statement M
 full-spec =
     tie.close
     (tie.spec
-    valid-of-requires
+    is-valid-requires
     object-status-requires
     entry-at-requires
     entry-at-requires-2

@@ -6,13 +6,13 @@ use Rattle.executive.proofs.queries.priority.Statement.{statement}
 use Rattle.executive.proofs.queries.priority.Tie as tie
 use Rattle.executive.proofs.queries.priority.Reads as reads
 use Rattle.executive.proofs.queries.priority.Lts as lts
+use Rattle.executive.proofs.queries.is_valid.Reads as is-valid-reads
 use Rattle.executive.proofs.queries.object_status.Reads as object-status-reads
 use Rattle.executive.proofs.queries.reply_of.Reads as reply-of-reads
-use Rattle.executive.proofs.refusal.state_at.Reads as state-at-reads
-use Rattle.executive.proofs.validity.valid_of.Reads as valid-of-reads
+use Rattle.refusals.proofs.state_at.Reads as state-at-reads
 
-valid-of-requires : tie.Need-valid-of-requires
-valid-of-requires c κs = search needs
+is-valid-requires : tie.Need-is-valid-requires
+is-valid-requires c κs = search needs
 
 object-status-requires : tie.Need-object-status-requires
 object-status-requires c κs = search needs
@@ -27,13 +27,13 @@ reply-of-requires : tie.Need-reply-of-requires
 reply-of-requires c κs = search needs
 
 returns : tie.Need-returns
-returns c = c .reply-of .ensures ∙ priority-is _ _ _ (c .before .before .before .before .before .valid-of .ensures) _ _ (c .before .before .before .before .object-status .ensures) (c .before .state-at .ensures)
+returns c = c .reply-of .ensures ∙ priority-is _ _ _ (c .before .before .before .before .before .is-valid .ensures) _ _ (c .before .before .before .before .object-status .ensures) (c .before .state-at .ensures)
 
 pub priority-spec : {M : Type 1} → statement M
 priority-spec =
     tie.close
     (tie.spec
-    valid-of-requires
+    is-valid-requires
     object-status-requires
     state-at-requires
     cast-reply-of

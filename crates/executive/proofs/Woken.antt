@@ -1,0 +1,26 @@
+-- SIGNAL: one bit joined to the events, and the task wakes or stays.
+use Prim.Native.Nat.{ℕ, _*_, _%_, _^_, _<_}
+use mathlib.Core.Path.{_≡_}
+use mathlib.Core.Bool.{Bool, true, false, _&&_}
+use native.Mathlib.Omega.{arith}
+use native.Mathlib.Nat.{one-mul, mod-eq-of-lt}
+use lib.Dec.{eqb}
+use lib.Pow.{pow-lt}
+use lib.Bits.{bitOr}
+use Rattle.rules.specs.declared.Task.{Task}
+use Rattle.rules.specs.Events.{met, arrive}
+use Rattle.rules.specs.Tasks.{asWoken, withArrived, woken, signalled}
+
+-- the machine's one bit
+pub bit-is : (e : ℕ) → (1 * 2 ^ (e % 16)) % 65536 ≡ 2 ^ (e % 16)
+bit-is e = let small : e % 16 < 16 = omega arith in rw one-mul (mod-eq-of-lt (pow-lt small))
+
+-- with that bit joined to the events, the task wakes or stays
+module _ (e x : ℕ) (r : Task) (m : Bool) (bit : x ≡ 2 ^ e) (is : m ≡ met (r .operator) (r .list) (bitOr (r .arrived) x)) where
+  pub wakes-is : (eqb (r .state) 2 && m) ≡ true → asWoken (withArrived (bitOr (r .arrived) x) r) ≡ signalled e r
+  unfolding signalled arrive woken
+  wakes-is h = rw (← bit, ← is, h)
+
+  pub stays-is : (eqb (r .state) 2 && m) ≡ false → withArrived (bitOr (r .arrived) x) r ≡ signalled e r
+  unfolding signalled arrive woken
+  stays-is h = rw (← bit, ← is, h)

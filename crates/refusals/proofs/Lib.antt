@@ -1,0 +1,4 @@
+-- Laws that the proofs of this crate's functions cite, and those of the crates above it.
+pub mod Flags
+pub mod Checked
+pub mod Refused

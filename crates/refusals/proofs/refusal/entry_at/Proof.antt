@@ -1,0 +1,20 @@
+use borrow.Author.Needs.{needs}
+use native.Mathlib.Omega.{arith}
+use Rattle.rules.proofs.Counts.{ends}
+use Rattle.refusals.proofs.Flags.{past-end}
+use Rattle.refusals.proofs.refusal.entry_at.Statement.{statement}
+use Rattle.refusals.proofs.refusal.entry_at.Tie as tie
+use Rattle.refusals.proofs.refusal.entry_at.Reads as reads
+use Rattle.refusals.proofs.refusal.entry_at.Lts as lts
+
+element-copy-out-result : tie.Need-element-copy-out-result
+element-copy-out-result c = search needs
+
+returns : tie.Need-returns
+returns c = search needs
+
+returns-2 : tie.Need-returns-2
+returns-2 c = past-end (c .before .args .entries .now) (c .before .args .q) (search ends)
+
+pub entry-at-spec : {M : Type 1} → statement M
+entry-at-spec = tie.close (tie.spec element-copy-out-result returns returns-2)

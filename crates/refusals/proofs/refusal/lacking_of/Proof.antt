@@ -1,0 +1,48 @@
+use borrow.Author.Needs.{needs}
+use native.Mathlib.Omega.{arith}
+use Rattle.refusals.specs.Late.{lacking}
+use Rattle.refusals.proofs.refusal.lacking_of.Statement.{statement}
+use Rattle.refusals.proofs.refusal.lacking_of.Tie as tie
+use Rattle.refusals.proofs.refusal.lacking_of.Reads as reads
+use Rattle.refusals.proofs.refusal.lacking_of.Lts as lts
+use Rattle.queues.proofs.place_of.Reads as place-of-reads
+use Rattle.refusals.proofs.refusal.entry_at.Reads as entry-at-reads
+
+cast-from : tie.Need-cast-from
+cast-from c = search needs
+
+mul-from : tie.Need-mul-from
+mul-from c = search needs
+
+entry-at-requires : tie.Need-entry-at-requires
+entry-at-requires c κs = search needs
+
+cast-to : tie.Need-cast-to
+cast-to c = search needs
+
+add-to : tie.Need-add-to
+add-to c = search needs
+
+place-of-requires : tie.Need-place-of-requires
+place-of-requires c κs = search needs
+
+returns : tie.Need-returns
+unfolding lacking
+returns c = rw (c .before .before .before .if1 .taken, c .place-of .ensures, c .before .entry-at .ensures)
+
+returns-2 : tie.Need-returns-2
+unfolding lacking
+returns-2 c = rw (c .if1 .left)
+
+pub lacking-of-spec : {M : Type 1} → statement M
+lacking-of-spec =
+    tie.close
+    (tie.spec
+    cast-from
+    mul-from
+    entry-at-requires
+    cast-to
+    add-to
+    place-of-requires
+    returns
+    returns-2)

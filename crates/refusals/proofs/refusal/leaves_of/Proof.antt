@@ -1,0 +1,19 @@
+use borrow.Author.Needs.{needs}
+use native.Mathlib.Omega.{arith}
+use lib.Dec.{eqb}
+use Rattle.rules.specs.Refusals.{leaves}
+use Rattle.refusals.proofs.Flags.{leaves-is}
+use Rattle.refusals.proofs.refusal.leaves_of.Statement.{statement}
+use Rattle.refusals.proofs.refusal.leaves_of.Tie as tie
+use Rattle.refusals.proofs.refusal.leaves_of.Reads as reads
+use Rattle.refusals.proofs.refusal.leaves_of.Lts as lts
+
+cast-result : tie.Need-cast-result
+cast-result c = search needs
+
+returns : tie.Need-returns
+unfolding leaves
+returns c = leaves-is (c .before .before .args .k .operation) (eqb (c .before .before .args .k .a) (c .before .before .args .k .caller))
+
+pub leaves-of-spec : {M : Type 1} → statement M
+leaves-of-spec = tie.close (tie.spec cast-result returns)

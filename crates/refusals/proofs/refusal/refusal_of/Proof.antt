@@ -1,0 +1,29 @@
+use borrow.Author.Needs.{needs}
+use native.Mathlib.Omega.{arith}
+use Rattle.refusals.proofs.Refused.{refused-early, refused-late}
+use Rattle.refusals.proofs.refusal.refusal_of.Statement.{statement}
+use Rattle.refusals.proofs.refusal.refusal_of.Tie as tie
+use Rattle.refusals.proofs.refusal.refusal_of.Reads as reads
+use Rattle.refusals.proofs.refusal.refusal_of.Lts as lts
+use Rattle.refusals.proofs.refusal.early_of.Reads as early-of-reads
+use Rattle.refusals.proofs.refusal.late_of.Reads as late-of-reads
+use Rattle.refusals.proofs.validity.valid_of.Reads as valid-of-reads
+
+valid-of-requires : tie.Need-valid-of-requires
+valid-of-requires c κs = search needs
+
+early-of-requires : tie.Need-early-of-requires
+early-of-requires c κs = search needs
+
+returns : tie.Need-returns
+returns c = refused-early _ _ _ _ (c .before .before .valid-of .ensures) (c .before .early-of .ensures) (c .if1 .taken)
+
+late-of-requires : tie.Need-late-of-requires
+late-of-requires c κs = search needs
+
+returns-2 : tie.Need-returns-2
+returns-2 c = refused-late _ _ _ _ (c .before .before .before .valid-of .ensures) (c .before .before .early-of .ensures) (c .before .if1 .left) _ (c .late-of .ensures)
+
+pub refusal-of-spec : {M : Type 1} → statement M
+refusal-of-spec =
+    tie.close (tie.spec valid-of-requires early-of-requires returns late-of-requires returns-2)

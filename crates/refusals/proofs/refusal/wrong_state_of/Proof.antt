@@ -1,0 +1,20 @@
+use borrow.Author.Needs.{needs}
+use native.Mathlib.Omega.{arith}
+use Rattle.refusals.proofs.Flags.{wrong-is}
+use Rattle.refusals.proofs.refusal.wrong_state_of.Statement.{statement}
+use Rattle.refusals.proofs.refusal.wrong_state_of.Tie as tie
+use Rattle.refusals.proofs.refusal.wrong_state_of.Reads as reads
+use Rattle.refusals.proofs.refusal.wrong_state_of.Lts as lts
+use Rattle.refusals.proofs.refusal.state_at.Reads as state-at-reads
+
+state-at-requires : tie.Need-state-at-requires
+state-at-requires c κs = search needs
+
+state-at-requires-2 : tie.Need-state-at-requires-2
+state-at-requires-2 c κs = search needs
+
+returns : tie.Need-returns
+returns c = wrong-is _ _ _ _ (c .before .state-at .ensures) (c .state-at2 .ensures)
+
+pub wrong-state-of-spec : {M : Type 1} → statement M
+wrong-state-of-spec = tie.close (tie.spec state-at-requires state-at-requires-2 returns)

@@ -1,0 +1,3 @@
+-- The definitions that this crate's contracts cite beside those of the rules.
+pub mod Lent
+pub mod Late

@@ -1,0 +1,203 @@
+// The refusals, in the order of the status table: the first that applies.
+use super::choice::pick;
+use super::validity::valid_of;
+use queues::place_of;
+use rules::Call;
+use tasks::held_by;
+ghost use mathlib.Core.Path.{_≡_};
+ghost use mathlib.Core.Bool.{not, _&&_};
+ghost use mathlib.Core.List.{[], _∷_};
+ghost use lib.Dec.{eqb, ltb, leb};
+ghost use lib.ListN.{length, getD};
+ghost use Rattle.rules.specs.Words.{when, first};
+ghost use Rattle.rules.specs.Refusals.{outsideBarred, notElected, missing, wrongState, leaves, refusal};
+ghost use Rattle.refusals.specs.Lent.{lent};
+ghost use Rattle.refusals.specs.Late.{lacking, lateFlags};
+
+// 10, 11, 13 and 12: what is refused before the call's numbers are looked at; 0 where none applies.
+fn early_of(ok: bool, elected: u8, k: Call) -> u8
+    ensures { λ r. ⌜ r ≡ first (when 10 (not ok) ∷ when 11 (ltb 9 (k .operation)) ∷ when 13 (outsideBarred k) ∷ when 12 (notElected elected (k .caller)) ∷ []) ⌝ }
+{
+    let outside = k.caller == 255;
+    let barred = outside & !(k.operation == 3);
+    let other = !outside & !(k.caller == elected);
+    let r12 = pick(other, 12, 0);
+    let r13 = pick(barred, 13, r12);
+    let r11 = pick(9 < k.operation, 11, r13);
+    pick(!ok, 10, r11)
+}
+
+// 14: a number of the call that stands for nothing. The numbers are compared as they come, 32 bits wide.
+fn missing_of(tasks: u8, regions: u8, queues: u8, k: Call) -> bool
+    ensures { λ r. ⌜ r ≡ missing tasks regions queues k ⌝ }
+{
+    let a = k.a;
+    let operation = k.operation;
+    match operation {
+        0 => !(a < (tasks as u32)),
+        1 => !(a < (tasks as u32)),
+        2 => false,
+        3 => !(a < 16) | !(k.b < (tasks as u32)),
+        4 => (a == 0) | (65535 < a),
+        5 => (a == 0) | (65535 < a),
+        6 => !(a < (regions as u32)),
+        7 => !(a < (regions as u32)),
+        8 => !(a < (queues as u32)) | !(k.c < 16),
+        9 => !(a < (queues as u32)) | (16 < k.c),
+        _ => false,
+    }
+}
+
+// The state of a task, 0 for one that does not exist.
+pub fn state_at(state: &[u8; 32], i: u32) -> u8
+    requires { ⌜ length (now state) ≡ 32 ⌝ }
+    ensures { λ r. ⌜ r ≡ getD (now (state .entry)) i 0 ⌝ }
+{
+    let at = i as usize;
+    if at < 32 { state[at] } else { 0 }
+}
+
+// A queue's bound or length, 0 for one that does not exist.
+pub fn entry_at(entries: &[u8; 8], q: u32) -> u8
+    requires { ⌜ length (now entries) ≡ 8 ⌝ }
+    ensures { λ r. ⌜ r ≡ getD (now (entries .entry)) q 0 ⌝ }
+{
+    let at = q as usize;
+    if at < 8 { entries[at] } else { 0 }
+}
+
+// 15: START of a task not stopped, STOP or SIGNAL of a stopped one.
+fn wrong_state_of(state: &[u8; 32], k: Call) -> bool
+    requires { ⌜ length (now state) ≡ 32 ⌝ }
+    ensures { λ r. ⌜ r ≡ wrongState (now (state .entry)) k ⌝ }
+{
+    let operation = k.operation;
+    let a = state_at(state, k.a) == 0;
+    let b = state_at(state, k.b) == 0;
+    ((operation == 0) & !a) | (((operation == 1) & a) | ((operation == 3) & b))
+}
+
+// 16, but for the regions: the calls by which the caller would stop running.
+fn leaves_of(k: Call) -> bool
+    ensures { λ r. ⌜ r ≡ leaves k ⌝ }
+{
+    let operation = k.operation;
+    ((operation == 1) & (k.a == (k.caller as u32))) | ((operation == 2) | (operation == 4))
+}
+
+// 17: SEND to a queue at its bound.
+fn full_of<'a>(bound: &'a [u8; 8], lengths: &'a [u8; 8], k: Call) -> bool
+    requires { ⌜ length (now bound) ≡ 8 ⌝ }
+    requires { ⌜ length (now lengths) ≡ 8 ⌝ }
+    ensures { λ r. ⌜ r ≡ (eqb (k .operation) 8 && leb (getD (now (bound .entry)) (k .a) 0) (getD (now (lengths .entry)) (k .a) 0)) ⌝ }
+{
+    let most = entry_at(bound, k.a);
+    let n = entry_at(lengths, k.a);
+    (k.operation == 8) & (most <= n)
+}
+
+// 18: RETRIEVE where no element fits.
+fn lacking_of<'a>(lengths: &'a [u8; 8], criterion: &'a [u8; 512], k: Call) -> bool
+    requires { ⌜ length (now lengths) ≡ 8 ⌝ }
+    requires { ⌜ length (now criterion) ≡ 512 ⌝ }
+    ensures { λ r. ⌜ r ≡ lacking (now (lengths .entry)) (now (criterion .entry)) k ⌝ }
+{
+    if (k.operation == 9) & (k.a < 8) {
+        let from = (k.a as usize) * 64;
+        let to = from + (entry_at(lengths, k.a) as usize);
+        let at = place_of(criterion, from, to, k.c);
+        return to <= at;
+    }
+    false
+}
+
+// The reasons from 14 on. The table is valid here, so that a queue that exists has its places in the store.
+fn late_of<'a>(
+    tasks: u8,
+    regions: u8,
+    queues: u8,
+    state: &'a [u8; 32],
+    holder: &'a [u8; 16],
+    bound: &'a [u8; 8],
+    lengths: &'a [u8; 8],
+    criterion: &'a [u8; 512],
+    k: Call,
+) -> u8
+    requires { ⌜ length (now state) ≡ 32 ⌝ }
+    requires { ⌜ length (now holder) ≡ 16 ⌝ }
+    requires { ⌜ length (now bound) ≡ 8 ⌝ }
+    requires { ⌜ length (now lengths) ≡ 8 ⌝ }
+    requires { ⌜ length (now criterion) ≡ 512 ⌝ }
+    ensures { λ r. ⌜ r ≡ first (lateFlags tasks regions queues (now (state .entry)) (now (holder .entry)) (now (bound .entry)) (now (lengths .entry)) (now (criterion .entry)) k) ⌝ }
+{
+    let r18 = pick(lacking_of(lengths, criterion, k), 18, 0);
+    let r17 = pick(full_of(bound, lengths, k), 17, r18);
+    let inside = held_by(holder) != 0;
+    let r16 = pick(leaves_of(k) & inside, 16, r17);
+    let r15 = pick(wrong_state_of(state, k), 15, r16);
+    let r19 = pick((k.operation == 4) & (1 < k.b), 19, r15);
+    pick(missing_of(tasks, regions, queues, k), 14, r19)
+}
+
+// The first reason that applies, 0 where none does.
+pub fn refusal_of<'a>(
+    tasks: u8,
+    regions: u8,
+    queues: u8,
+    elected: u8,
+    priority: &'a [u8; 32],
+    state: &'a [u8; 32],
+    arrived: &'a [u16; 32],
+    list: &'a [u16; 32],
+    operator: &'a [u8; 32],
+    holder: &'a [u8; 16],
+    bound: &'a [u8; 8],
+    lengths: &'a [u8; 8],
+    element: &'a [u32; 512],
+    criterion: &'a [u8; 512],
+    k: Call,
+) -> u8
+    requires { ⌜ length (now priority) ≡ 32 ⌝ }
+    requires { ⌜ length (now state) ≡ 32 ⌝ }
+    requires { ⌜ length (now arrived) ≡ 32 ⌝ }
+    requires { ⌜ length (now list) ≡ 32 ⌝ }
+    requires { ⌜ length (now operator) ≡ 32 ⌝ }
+    requires { ⌜ length (now holder) ≡ 16 ⌝ }
+    requires { ⌜ length (now bound) ≡ 8 ⌝ }
+    requires { ⌜ length (now lengths) ≡ 8 ⌝ }
+    requires { ⌜ length (now element) ≡ 512 ⌝ }
+    requires { ⌜ length (now criterion) ≡ 512 ⌝ }
+    ensures { λ r. ⌜ r ≡ refusal (lent tasks regions queues elected (now (priority .entry)) (now (state .entry)) (now (arrived .entry)) (now (list .entry)) (now (operator .entry)) (now (holder .entry)) (now (bound .entry)) (now (lengths .entry)) (now (element .entry)) (now (criterion .entry))) k ⌝ }
+{
+    let ok = valid_of(
+        tasks,
+        regions,
+        queues,
+        elected,
+        priority,
+        state,
+        arrived,
+        list,
+        operator,
+        holder,
+        bound,
+        lengths,
+        element,
+        criterion,
+    );
+    let early = early_of(ok, elected, k);
+    if early != 0 {
+        return early;
+    }
+    late_of(
+        tasks,
+        regions,
+        queues,
+        state,
+        holder,
+        bound,
+        lengths,
+        criterion,
+        k,
+    )
+}
