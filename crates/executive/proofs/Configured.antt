@@ -1,12 +1,11 @@
 -- A configuration: each test that fails refuses it, and one that passes them all gives the fresh table.
 use Prim.Native.Nat.{ℕ, _<_, _≤_}
-use mathlib.Core.Path.{_≡_, refl, sym, ap, _∙_}
-use mathlib.Core.Bool.{Bool, true, false, cond, and-false}
+use mathlib.Core.Path.{_≡_}
+use mathlib.Core.Bool.{true, false, and-false}
 use mathlib.Core.List.{List}
-use lib.Dec.{ltb, leb}
+use lib.Dec.{ltb}
 use lib.ListN.{length, take}
 use borrow.Author.Tests.{le-leb, lt-leb}
-use Rattle.rules.specs.declared.Done.{Done}
 use Rattle.rules.specs.Numbers.{taskRoom, priorityEnd, queueRoom}
 use Rattle.rules.specs.Words.{all, every, padded}
 use Rattle.rules.specs.Validity.{countsInRange, boundInRange}

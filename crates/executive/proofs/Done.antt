@@ -1,24 +1,24 @@
 -- The record that the code builds for each kind of call is the step of the rules.
-use Prim.Native.Nat.{ℕ, suc, _+_, _-_, _%_, _<_, _≤_}
+use Prim.Native.Nat.{ℕ, _+_, _-_, _%_, _<_, _≤_}
 use mathlib.Core.Path.{_≡_, refl, sym, ap, ap₂, _∙_}
 use mathlib.Core.Logic.{_≢_}
 use mathlib.Core.Bool.{Bool, true, false, cond, not, _&&_, _||_}
-use mathlib.Core.List.{List, [], _∷_, _++_}
+use mathlib.Core.List.{List}
 use native.Mathlib.Omega.{arith}
 use native.Mathlib.Nat.{mod-eq-of-lt}
-use lib.Dec.{eqb, ltb, leb}
+use lib.Dec.{eqb, ltb}
 use lib.ListN.{getD, set, length}
 use borrow.Author.Tests.{eqb-true, eqb-false, ne-eqb, ltb-true, ltb-false, leb-false, not-false}
 use Rattle.rules.specs.declared.Task.{Task}
 use Rattle.rules.specs.declared.Table.{Table}
 use Rattle.rules.specs.declared.Call.{Call}
 use Rattle.rules.specs.declared.Done.{Done}
-use Rattle.rules.specs.Numbers.{queueRoom, places, storeSize, WAIT, SEND, RETRIEVE}
+use Rattle.rules.specs.Numbers.{queueRoom, places, WAIT, SEND, RETRIEVE}
 use Rattle.rules.specs.Events.{met}
 use Rattle.rules.specs.Regions.{held}
 use Rattle.rules.specs.Queues.{Pair, pair, firstPlace}
-use Rattle.rules.specs.Tables.{taskOf, lengthOf, boundOf, queueOf, withTask, withHolders, withElected, electionOf, settled}
-use Rattle.rules.specs.Answers.{done, refused}
+use Rattle.rules.specs.Tables.{taskOf, lengthOf, boundOf, queueOf, withTask, withHolders, withElected, electionOf}
+use Rattle.rules.specs.Answers.{done}
 use Rattle.rules.specs.Refusals.{missing, refusal}
 use Rattle.rules.specs.Effects.{Effect, plain, effect}
 use Rattle.rules.specs.Step.{accepted, step}

@@ -1,7 +1,7 @@
 -- The five queries: the status by lent arrays is the rules', and where it is 0 so is the value.
-use Prim.Native.Nat.{ℕ, _%_, _<_, _≤_}
+use Prim.Native.Nat.{ℕ, _%_, _<_}
 use mathlib.Core.Path.{_≡_, refl, sym, ap, _∙_}
-use mathlib.Core.Bool.{Bool, true, false, cond, not, _||_}
+use mathlib.Core.Bool.{Bool, true, false, not, _||_}
 use mathlib.Core.List.{List, [], _∷_}
 use native.Mathlib.Omega.{arith}
 use native.Mathlib.Nat.{mod-eq-of-lt}
@@ -9,7 +9,7 @@ use lib.Dec.{eqb, ltb, leb}
 use lib.ListN.{getD, length}
 use borrow.Author.Tests.{eqb-true, ltb-true, ltb-false, not-false}
 use Rattle.rules.specs.declared.Table.{Table}
-use Rattle.rules.specs.Numbers.{queueRoom, outside}
+use Rattle.rules.specs.Numbers.{outside}
 use Rattle.rules.specs.Words.{isZero, every, Reason, when, first}
 use Rattle.rules.specs.Events.{met}
 use Rattle.rules.specs.Tables.{lengthOf, boundOf, queueOf}

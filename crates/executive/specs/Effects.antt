@@ -1,5 +1,5 @@
 -- The first six operations as one change of one task, and ENTER and EXIT as one change of one region's entry, for the code's shape.
-use Prim.Native.Nat.{ℕ, suc, _%_}
+use Prim.Native.Nat.{ℕ, _%_}
 use mathlib.Core.Bool.{cond}
 use lib.Dec.{eqb, ltb}
 use Rattle.rules.specs.declared.Task.{Task}

@@ -69,14 +69,14 @@ pub fn call(mut t: Table, k: Call) -> Done
         t.list[i] = after.list;
         t.operator[i] = after.operator;
         let v = held_by(&t.holder);
-        let who = elected_by(v, &t.state, &t.priority);
-        t.elected = who;
+        let next = elected_by(v, &t.state, &t.priority);
+        t.elected = next;
         let waits = pick((operation == 4) & !met, 1, 0);
         let yes = Answer {
             status: waits,
             value: 0,
             key: 0,
-            elected: who,
+            elected: next,
         };
         return Done {
             table: t,

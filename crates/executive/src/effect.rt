@@ -34,7 +34,7 @@ fn signalled_by(e: u32, r: Task) -> Task
     if wakes {
         return Task {
             state: 1,
-            arrived: arrived,
+            arrived: arrived, // waking doesn't clear events
             list: 0,
             operator: 0,
         };

@@ -111,8 +111,8 @@ pub fn empty(t: Table, queue: u32) -> Answer
 {
     let ok = is_valid(t);
     let status = object_status(ok, t.queues, queue);
-    let n = entry_at(&t.length, queue);
-    reply_of(status, one_if(n == 0), t.elected)
+    let held = entry_at(&t.length, queue);
+    reply_of(status, one_if(held == 0), t.elected)
 }
 
 // FULL: 1 if the queue is at its bound.

@@ -1,8 +1,8 @@
 -- Tests by operation: the code's flags, and the definitions' lists with an entry for each operation.
-use Prim.Native.Nat.{ℕ, zero, suc, _*_, _%_, _^_, _<_, _≤_}
-use mathlib.Core.Path.{_≡_, refl, sym, ap, _∙_}
+use Prim.Native.Nat.{ℕ, zero, suc, _<_, _≤_}
+use mathlib.Core.Path.{_≡_, refl, sym, _∙_}
 use mathlib.Core.Logic.{_≢_}
-use mathlib.Core.Bool.{Bool, true, false, cond, not, _&&_, _||_, or-false}
+use mathlib.Core.Bool.{Bool, true, false, not, _&&_, _||_, or-false}
 use mathlib.Core.List.{List, [], _∷_}
 use native.Mathlib.Omega.{arith}
 use lib.Dec.{eqb}
@@ -10,7 +10,7 @@ use lib.ListN.{getD, length, List·getD-eq-default}
 use borrow.Author.Tests.{ne-eqb}
 use Rattle.rules.specs.declared.Call.{Call}
 use Rattle.rules.specs.Words.{byOperation}
-use Rattle.rules.specs.Refusals.{wrongState, leaves, missing}
+use Rattle.rules.specs.Refusals.{wrongState, missing}
 
 -- a number past the named ones is none of them
 none-of : (n k : ℕ) → k < n → eqb n k ≡ false

@@ -1,27 +1,25 @@
 -- The refusals as the code finds them: first those before a call's numbers are looked at, then the others, of a valid table.
-use Prim.Native.Nat.{ℕ, _+_, _*_, _<_, _≤_}
-use mathlib.Core.Path.{_≡_, refl, sym, ap, _∙_}
-use mathlib.Core.Logic.{_≢_}
-use mathlib.Core.Bool.{Bool, true, false, cond, not, _&&_, _||_}
-use mathlib.Core.List.{List, [], _∷_, _++_}
+use Prim.Native.Nat.{ℕ, _<_}
+use mathlib.Core.Path.{_≡_, refl, sym, _∙_}
+use mathlib.Core.Bool.{Bool, true, false, cond, not, _&&_}
+use mathlib.Core.List.{List, [], _∷_}
 use native.Mathlib.Omega.{arith}
 use lib.Dec.{eqb, ltb, leb}
-use lib.ListN.{getD, length}
-use lib.Seq.{slice}
-use borrow.Author.Tests.{eqb-true, eq-eqb, ne-eqb, ltb-true, leb-true, lt-ltb, le-leb, leb-false, lt-leb, not-false}
+use lib.ListN.{length}
+use borrow.Author.Tests.{eqb-true, ne-eqb, ltb-true, leb-true, lt-ltb, not-false}
 use Rattle.rules.specs.declared.Table.{Table}
 use Rattle.rules.specs.declared.Call.{Call}
-use Rattle.rules.specs.Numbers.{queueRoom, places, storeSize, WAIT, SEND, RETRIEVE}
+use Rattle.rules.specs.Numbers.{queueRoom, WAIT, SEND, RETRIEVE}
 use Rattle.rules.specs.Words.{isZero, every, Reason, when, first}
-use Rattle.rules.specs.Regions.{held, occupied}
-use Rattle.rules.specs.Queues.{criteria, firstPlace, front, wanted, before, place, noneFits}
+use Rattle.rules.specs.Regions.{occupied}
+use Rattle.rules.specs.Queues.{noneFits}
 use Rattle.rules.specs.Tables.{boundOf, lengthOf, queueOf}
 use Rattle.rules.specs.Validity.{valid, countsInRange}
 use Rattle.rules.specs.Refusals.{outsideBarred, notElected, missing, badOperator, wrongState, leaves, reasons, refusal}
 use Rattle.rules.proofs.Bools.{given, or-left}
-use Rattle.rules.proofs.Queues.{Sound, queue-length, queue-criteria}
+use Rattle.rules.proofs.Queues.{queue-length}
 use Rattle.rules.proofs.Validity.{Parts, parts-of, sound}
-use Rattle.rules.proofs.Refusals.{named, first-append}
+use Rattle.rules.proofs.Refusals.{first-append}
 use Rattle.queues.proofs.Places.{none-is}
 use Rattle.refusals.specs.Late.{lacking, lateFlags}
 

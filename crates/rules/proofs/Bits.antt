@@ -1,15 +1,15 @@
 -- Laws of bits that the library lacks, all from what a single bit is: numbers with the same bits are equal.
-use Prim.Native.Nat.{ℕ, zero, suc, _+_, _*_, _-_, _/_, _%_, _^_, _<_, _≤_, min, max}
-use mathlib.Core.Path.{_≡_, refl, sym, ap, _∙_, subst}
+use Prim.Native.Nat.{ℕ, zero, suc, _+_, _-_, _/_, _%_, _^_, min, max}
+use mathlib.Core.Path.{_≡_, refl, sym, ap, _∙_}
 use mathlib.Core.Logic.{_≢_}
 use mathlib.Core.Bool.{Bool, true, false}
 use native.Mathlib.Omega.{arith}
 use native.Mathlib.Nat.{div-eq-of-lt, pow-suc, one-mul}
-use lib.Dec.{ltb}
+use lib.Dec.{eqb, ltb}
 use lib.Arith.{bin-ind}
 use lib.Pow.{pow-pos, pow-lt, pow-add, shr-shr, shl-shr}
-use borrow.Author.Tests.{ltb-true, ltb-false}
-use lib.Bits.{bitAnd, bitOr, bitXor, differ, and-step, or-step, xor-step, and-shr, or-shr, xor-shr, xor-add-and}
+use borrow.Author.Tests.{eqb-true, eqb-false, ltb-true, ltb-false}
+use lib.Bits.{bitAnd, bitOr, bitXor, differ, and-step, or-step, xor-step, and-shr, or-shr, xor-shr}
 
 abbrev pub bit : ℕ → ℕ → ℕ
 bit i n = n / 2 ^ i % 2
@@ -25,6 +25,9 @@ no-bits =
     bin-ind (λ n. ((i : ℕ) → bit i n ≡ 0) → n ≡ 0) (λ h. refl)
     (λ n ih h. let half = ih (λ i. bit-half i n ∙ h (suc i)) in omega (arith, bit-zero n, h 0))
 
+pub bit-of-zero : (i : ℕ) → bit i 0 ≡ 0
+bit-of-zero i = ap (λ q. q % 2) (div-eq-of-lt (pow-pos i))
+
 -- numbers with the same bits are equal
 pub same-bits : (m n : ℕ) → ((i : ℕ) → bit i m ≡ bit i n) → m ≡ n
 same-bits =
@@ -33,9 +36,18 @@ same-bits =
     (λ m ih n h.
     let half = ih (n / 2) (λ i. bit-half i m ∙ h (suc i) ∙ sym (bit-half i n)) in
     omega (arith, bit-zero m, bit-zero n, h 0))
+
+-- a number that is not 0 has a bit
+pub some-bit : (n : ℕ) → n ≢ 0 → (i : ℕ) × (bit i n ≡ 1)
+some-bit =
+    bin-ind (λ n. n ≢ 0 → (i : ℕ) × (bit i n ≡ 1)) (λ h. absurd (h refl)) (λ n ih h. go n ih h (eqb (n % 2) 1) refl)
   where
-    bit-of-zero : (i : ℕ) → bit i 0 ≡ 0
-    bit-of-zero i = ap (λ q. q % 2) (div-eq-of-lt (pow-pos i))
+    go : (n : ℕ) → (n / 2 ≢ 0 → (i : ℕ) × (bit i (n / 2) ≡ 1)) → n ≢ 0 → (b : Bool) → eqb (n % 2) 1 ≡ b → (i : ℕ) × (bit i n ≡ 1)
+    go n ih h true e = (0, bit-zero n ∙ eqb-true (n % 2) 1 e)
+    go n ih h false e =
+        let even : n % 2 ≢ 1 = eqb-false (n % 2) 1 e in
+        let q = ih (omega arith) in
+        (suc (q .0), sym (bit-half (q .0) n) ∙ q .1)
 
 -- ---- a bit of a sum of bits
 

@@ -1,7 +1,7 @@
 -- Laws of tests over every number below a bound: below, within and past.
 use Prim.Native.Nat.{ℕ, zero, suc, _+_, _<_, _≤_}
 use mathlib.Core.Path.{_≡_, refl, sym, ap, _∙_}
-use mathlib.Core.Logic.{_≢_, ⊎-elim}
+use mathlib.Core.Logic.{_≢_}
 use mathlib.Core.Bool.{Bool, true, false, not, _&&_, _||_}
 use mathlib.Core.List.{List, map}
 use native.Mathlib.Omega.{arith}
@@ -11,7 +11,7 @@ use lib.ListN.{length}
 use borrow.Author.Needs.{needs, length-unmapped}
 use borrow.Author.Tests.{eqb-true, eqb-false, eq-eqb, ne-eqb, lt-ltb, le-ltb, le-leb, lt-leb, ltb-true, ltb-false}
 use Rattle.rules.specs.Words.{below, within, past}
-use Rattle.rules.proofs.Bools.{and-left, and-right, both, or-first, or-second}
+use Rattle.rules.proofs.Bools.{and-left, and-right, both}
 
 -- one number more, as a loop counts
 pub below-more : (i : ℕ) (p : ℕ → Bool) → below (i + 1) p ≡ (below i p && p i)

@@ -1,6 +1,6 @@
 -- What each operation leaves alone, and a way to say a thing of each operation once.
-use Prim.Native.Nat.{ℕ, zero, suc, _+_, _<_, _≤_}
-use mathlib.Core.Path.{_≡_, refl, sym, ap, _∙_}
+use Prim.Native.Nat.{ℕ, zero, suc, _<_, _≤_}
+use mathlib.Core.Path.{_≡_, refl, sym, ap}
 use mathlib.Core.Logic.{_≢_}
 use mathlib.Core.Bool.{Bool, true, false, _||_, false≢true}
 use mathlib.Core.List.{List}
@@ -8,11 +8,12 @@ use native.Mathlib.Omega.{arith}
 use native.Mathlib.Nat.{le-of-suc-le-suc}
 use lib.Dec.{ltb, eqb}
 use lib.ListN.{length, List·getD-eq-default}
-use borrow.Author.Tests.{ltb-true, ltb-false}
+use borrow.Author.Tests.{eq-eqb, ne-eqb, ltb-true, ltb-false}
 use Rattle.rules.specs.declared.Table.{Table}
 use Rattle.rules.specs.declared.Call.{Call}
 use Rattle.rules.specs.Numbers.{CLEAR, ENTER, EXIT, SEND}
 use Rattle.rules.specs.Words.{byOperation}
+use Rattle.rules.specs.Regions.{entered, exited}
 use Rattle.rules.specs.Tables.{electionOf}
 use Rattle.rules.specs.Effects.{Effect, plain, nothing, operations, effect}
 
@@ -122,3 +123,16 @@ module _ (t : Table) (c : Call) where
       each-effect t c (λ n e. ltb EXIT n ≡ true → electionOf (e .table) ≡ electionOf t)
       (never, (never, (never, (never, (never, (never, (never, (never, (λ h. refl, (λ h. refl, tt))))))))))
       (λ n h. refl)
+
+-- ---- ENTER and EXIT, entry by entry
+
+-- ENTER: "nothing changes if it is already"
+pub enter-again : (caller : ℕ) → entered caller (suc caller) ≡ suc caller
+enter-again caller = refl
+
+-- EXIT: "region becomes free"; "nothing changes if the caller doesn't hold it"
+pub exit-frees : (caller : ℕ) → exited caller (suc caller) ≡ 0
+exit-frees caller = rw (eq-eqb (suc caller) (suc caller) refl)
+
+pub exit-leaves : (caller h : ℕ) → h ≢ suc caller → exited caller h ≡ h
+exit-leaves caller h n = rw (ne-eqb h (suc caller) n)

@@ -2,11 +2,11 @@
 use Prim.Native.Nat.{ℕ, zero, suc, _+_, _-_, _<_, _≤_}
 use mathlib.Core.Logic.{_≢_}
 use mathlib.Core.Path.{_≡_, refl, sym, _∙_, ap}
-use mathlib.Core.Bool.{Bool, true, false, _&&_, and-assoc}
+use mathlib.Core.Bool.{Bool, true, _&&_, and-assoc}
 use mathlib.Core.List.{List, [], _∷_, _++_, map}
 use native.Mathlib.Omega.{arith}
 use native.Mathlib.Nat.{le-of-suc-le-suc}
-use lib.ListN.{getD, set, take, drop, length, length-append, length-drop, length-replicate, replicate, length-map, List·getD-append, List·getD-eq-default, getD-replicate}
+use lib.ListN.{getD, set, take, drop, length, length-append, length-drop, length-replicate, replicate, List·getD-append}
 use lib.Seq.{length-take-le, getD-append-add}
 use Rattle.rules.specs.Words.{every, altered, padded}
 use Rattle.rules.specs.Queues.{without}

@@ -1,12 +1,11 @@
 -- Laws of a task row under signals: two signals change places, a signal stops nobody and lets nobody wait.
-use Prim.Native.Nat.{ℕ, zero, suc}
+use Prim.Native.Nat.{ℕ}
 use mathlib.Core.Path.{_≡_, refl, sym, ap, _∙_}
-use mathlib.Core.Bool.{Bool, true, false, cond, not, _&&_, false≢true}
-use lib.Dec.{eqb}
+use mathlib.Core.Bool.{Bool, true, false, _&&_, false≢true}
 use borrow.Author.Tests.{eqb-true}
 use Rattle.rules.specs.declared.Task.{Task}
 use Rattle.rules.specs.Events.{met, arrive}
-use Rattle.rules.specs.Tasks.{isStopped, isReady, isWaiting, asWoken, withArrived, woken, signalled}
+use Rattle.rules.specs.Tasks.{isStopped, isReady, isWaiting, withArrived, woken, signalled}
 use Rattle.rules.proofs.Bools.{and-left, and-right, both}
 use Rattle.rules.proofs.Events.{arrive-comm, arrive-twice, met-more}
 

@@ -1,23 +1,23 @@
 -- Validity by subject: the rules of the list gathered by what they speak of, tasks, regions, queues, as a check goes through them.
-use Prim.Native.Nat.{ℕ, zero, suc, _-_, _<_, _≤_}
-use mathlib.Core.Path.{_≡_, refl, sym, ap, _∙_}
+use Prim.Native.Nat.{ℕ, _-_, _<_, _≤_}
+use mathlib.Core.Path.{_≡_, refl, sym, _∙_}
 use mathlib.Core.Logic.{_≢_, ⊎-elim}
 use mathlib.Core.Bool.{Bool, true, false, cond, not, _&&_, _||_, false≢true}
 use mathlib.Core.List.{List, [], _∷_}
 use native.Mathlib.Omega.{arith}
 use lib.Dec.{ltb, eqb, leb}
 use lib.ListN.{getD, length, List·getD-eq-default}
-use borrow.Author.Tests.{eqb-true, eq-eqb, ltb-true, ltb-false, leb-true, leb-false, lt-ltb, le-ltb, le-leb, not-true, not-false}
+use borrow.Author.Tests.{eqb-true, eq-eqb, ltb-true, ltb-false, leb-true, lt-ltb, le-ltb, le-leb, not-true}
 use Rattle.rules.specs.declared.Table.{Table}
 use Rattle.rules.specs.Numbers.{taskRoom, priorityEnd, listEnd, regionRoom, queueRoom, places, storeSize, nobody}
-use Rattle.rules.specs.Words.{isZero, all, every, below, within, past}
+use Rattle.rules.specs.Words.{isZero, all, every, below, past}
 use Rattle.rules.specs.Events.{met}
 use Rattle.rules.specs.Tasks.{waiting, isWaiting}
 use Rattle.rules.specs.Regions.{held, occupied, holderOf}
 use Rattle.rules.specs.Queues.{behind}
 use Rattle.rules.specs.Election.{lowest, readyAt, isBest, bestReady, election}
 use Rattle.rules.specs.Tables.{taskOf, lengthOf, boundOf, electionOf}
-use Rattle.rules.specs.Validity.{shaped, countsInRange, prioritiesInRange, boundInRange, boundsInRange, listsInRange, operatorsInRange, holdersInRange, criterionInRange, criteriaInRange, zeroPast, zeroPastCounts, zeroPastLengths, restRight, stateRight, statesRight, oneHolder, holderReady, holderElected, lengthsRight, electedRight, valid}
+use Rattle.rules.specs.Validity.{shaped, countsInRange, prioritiesInRange, boundInRange, boundsInRange, listsInRange, operatorsInRange, holdersInRange, criteriaInRange, zeroPast, zeroPastCounts, zeroPastLengths, restRight, stateRight, statesRight, oneHolder, holderReady, holderElected, lengthsRight, electedRight, valid}
 use Rattle.rules.proofs.Bools.{given, shown, and-left, and-right, both, or-cases, or-first, or-second, same-test}
 use Rattle.rules.proofs.Election.{lowest-is}
 use Rattle.rules.proofs.Queues.{Sound}

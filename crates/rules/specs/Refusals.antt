@@ -10,7 +10,7 @@ use Rattle.rules.specs.Numbers.{eventEnd, criterionEnd, largestPresent, 
 use Rattle.rules.specs.Words.{isZero, byOperation, Reason, when, first}
 use Rattle.rules.specs.Tasks.{stopped}
 use Rattle.rules.specs.Regions.{occupied}
-use Rattle.rules.specs.Queues.{Pair, noneFits}
+use Rattle.rules.specs.Queues.{noneFits}
 use Rattle.rules.specs.Tables.{boundOf, queueOf}
 use Rattle.rules.specs.Validity.{valid}
 

@@ -1,3 +1,5 @@
+-- A refused call hands the table back. An accepted one is a change of one task, of one region's entry, or of one queue's places;
+-- what the code builds in each case is the step, by the laws of proofs/Done.antt.
 use borrow.Author.Needs.{needs}
 use native.Mathlib.Omega.{arith}
 use mathlib.Core.Path.{_≡_, refl, sym, _∙_}
@@ -14,20 +16,6 @@ use Rattle.executive.proofs.Accepted.{target-below, tasks-fit, region-t
 use Rattle.executive.proofs.Done.{Fits, refused-done, task-done, region-done, free, send-done, found, retrieve-done, retrieve-is, retrieve-some, queue-fits}
 use Rattle.executive.proofs.calls.call.Statement.{statement}
 use Rattle.executive.proofs.calls.call.Tie as tie
-use Rattle.executive.proofs.calls.call.Reads as reads
-use Rattle.executive.proofs.calls.call.Lts as lts
-use Rattle.executive.proofs.answer.reported_by.Reads as reported-by-reads
-use Rattle.executive.proofs.effect.holder_after.Reads as holder-after-reads
-use Rattle.executive.proofs.effect.target_of.Reads as target-of-reads
-use Rattle.executive.proofs.effect.task_after.Reads as task-after-reads
-use Rattle.queues.proofs.close_criteria.Reads as close-criteria-reads
-use Rattle.queues.proofs.close_elements.Reads as close-elements-reads
-use Rattle.queues.proofs.place_of.Reads as place-of-reads
-use Rattle.refusals.proofs.pick.Reads as pick-reads
-use Rattle.refusals.proofs.refusal_of.Reads as refusal-of-reads
-use Rattle.tasks.proofs.met_by.Reads as met-by-reads
-use Rattle.tasks.proofs.elected_by.Reads as elected-by-reads
-use Rattle.tasks.proofs.held_by.Reads as held-by-reads
 
 long : (c : tie.Start) → Lengths (c .args .t1 .priority) (c .args .t1 .state) (c .args .t1 .arrived) (c .args .t1 .list) (c .args .t1 .operator) (c .args .t1 .holder) (c .args .t1 .bound) (c .args .t1 .length) (c .args .t1 .element) (c .args .t1 .criterion)
 long c = search needs

@@ -1,12 +1,10 @@
+-- The array so far holds the bounds passed and zeros.
 use borrow.Author.Needs.{needs}
-use native.Mathlib.Omega.{arith}
 use Prim.Native.Nat.{_≤_, _-_}
 use mathlib.Core.Path.{_≡_}
 use Rattle.executive.proofs.Fills.{filled, filled-again, filled-end}
 use Rattle.executive.proofs.configure.bounds_of.Statement.{statement}
 use Rattle.executive.proofs.configure.bounds_of.Tie as tie
-use Rattle.executive.proofs.configure.bounds_of.Reads as reads
-use Rattle.executive.proofs.configure.bounds_of.Lts as lts
 
 abbrev Inv-loop : tie.InvT-loop
 Inv-loop queues bounds out₀ i₀ out i = (i ≤ queues) × (out ≡ filled 8 i bounds)

@@ -1,5 +1,5 @@
+-- The flag so far is the test of every bound passed.
 use borrow.Author.Needs.{needs}
-use native.Mathlib.Omega.{arith}
 use Prim.Native.Nat.{_≤_, _-_}
 use mathlib.Core.Path.{_≡_}
 use lib.ListN.{take}
@@ -8,9 +8,6 @@ use Rattle.rules.specs.Validity.{boundInRange}
 use Rattle.executive.proofs.Fills.{every-again, every-end}
 use Rattle.executive.proofs.configure.bounds_right.Statement.{statement}
 use Rattle.executive.proofs.configure.bounds_right.Tie as tie
-use Rattle.executive.proofs.configure.bounds_right.Reads as reads
-use Rattle.executive.proofs.configure.bounds_right.Lts as lts
-use Rattle.executive.proofs.configure.bound_right.Reads as bound-right-reads
 
 abbrev Inv-loop : tie.InvT-loop
 Inv-loop queues bounds ok₀ i₀ ok i = (i ≤ queues) × (ok ≡ every boundInRange (take i bounds))

@@ -1,19 +1,11 @@
+-- Each test that fails refuses the configuration; past them all the table is the fresh one.
 use borrow.Author.Needs.{needs}
-use native.Mathlib.Omega.{arith}
 use mathlib.Core.Path.{sym, _∙_}
 use borrow.Author.Tests.{not-true, not-false}
 use Rattle.rules.proofs.Validity.{counts-fit}
 use Rattle.executive.proofs.Configured.{counts-refuse, priorities-refuse, bounds-refuse, bound-refuses, accepts}
 use Rattle.executive.proofs.configure.fresh.Statement.{statement}
 use Rattle.executive.proofs.configure.fresh.Tie as tie
-use Rattle.executive.proofs.configure.fresh.Reads as reads
-use Rattle.executive.proofs.configure.fresh.Lts as lts
-use Rattle.executive.proofs.configure.bounds_of.Reads as bounds-of-reads
-use Rattle.executive.proofs.configure.bounds_right.Reads as bounds-right-reads
-use Rattle.executive.proofs.configure.fresh_table.Reads as fresh-table-reads
-use Rattle.executive.proofs.configure.out_of_range.Reads as out-of-range-reads
-use Rattle.executive.proofs.configure.priorities_of.Reads as priorities-of-reads
-use Rattle.refusals.proofs.counts_right.Reads as counts-right-reads
 
 counts-right-requires : tie.Need-counts-right-requires
 counts-right-requires c κs = search needs

@@ -1,11 +1,9 @@
+-- The arrays are the definition's, with task 0 ready.
 use borrow.Author.Needs.{needs}
-use native.Mathlib.Omega.{arith}
 use mathlib.Core.Path.{refl}
 use Rattle.rules.specs.Words.{padded}
 use Rattle.executive.proofs.configure.fresh_table.Statement.{statement}
 use Rattle.executive.proofs.configure.fresh_table.Tie as tie
-use Rattle.executive.proofs.configure.fresh_table.Reads as reads
-use Rattle.executive.proofs.configure.fresh_table.Lts as lts
 
 array-write-state : tie.Need-array-write-state
 array-write-state c = search needs

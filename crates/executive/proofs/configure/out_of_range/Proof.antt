@@ -1,10 +1,7 @@
+-- The table of zeros, 20, and 255 for the elected task.
 use borrow.Author.Needs.{needs}
-use native.Mathlib.Omega.{arith}
 use Rattle.executive.proofs.configure.out_of_range.Statement.{statement}
 use Rattle.executive.proofs.configure.out_of_range.Tie as tie
-use Rattle.executive.proofs.configure.out_of_range.Reads as reads
-use Rattle.executive.proofs.configure.out_of_range.Lts as lts
-use Rattle.executive.proofs.configure.zero_table.Reads as zero-table-reads
 
 zero-table-requires : tie.Need-zero-table-requires
 zero-table-requires c κs = search needs

@@ -1,3 +1,4 @@
+-- The array so far holds the priorities passed and zeros; each is a byte, and so a priority.
 use borrow.Author.Needs.{needs}
 use native.Mathlib.Omega.{arith}
 use Prim.Native.Nat.{_≤_, _-_}
@@ -10,8 +11,6 @@ use Rattle.rules.specs.Words.{every}
 use Rattle.executive.proofs.Fills.{filled, filled-again, filled-end, every-again, every-end}
 use Rattle.executive.proofs.configure.priorities_of.Statement.{statement}
 use Rattle.executive.proofs.configure.priorities_of.Tie as tie
-use Rattle.executive.proofs.configure.priorities_of.Reads as reads
-use Rattle.executive.proofs.configure.priorities_of.Lts as lts
 
 abbrev Inv-loop : tie.InvT-loop
 Inv-loop tasks priorities out₀ i₀ out i = (i ≤ tasks) × (out ≡ filled 32 i priorities) × (true ≡ every (λ p. ltb p 256) (take i priorities))

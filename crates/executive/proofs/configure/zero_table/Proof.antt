@@ -1,11 +1,8 @@
-use borrow.Author.Needs.{needs}
-use native.Mathlib.Omega.{arith}
+-- Every array is made of zeros.
 use mathlib.Core.Path.{refl}
 use Rattle.rules.specs.Fresh.{zeroTable}
 use Rattle.executive.proofs.configure.zero_table.Statement.{statement}
 use Rattle.executive.proofs.configure.zero_table.Tie as tie
-use Rattle.executive.proofs.configure.zero_table.Reads as reads
-use Rattle.executive.proofs.configure.zero_table.Lts as lts
 
 returns : tie.Need-returns
 unfolding zeroTable

@@ -1,12 +1,9 @@
-use borrow.Author.Needs.{needs}
-use native.Mathlib.Omega.{arith}
+-- What is listed and has arrived is taken away, which is never more than has arrived.
 use mathlib.Core.Path.{refl}
 use lib.Bits.{and-le-l}
 use Rattle.rules.specs.Events.{cleared}
 use Rattle.executive.proofs.effect.cleared_by.Statement.{statement}
 use Rattle.executive.proofs.effect.cleared_by.Tie as tie
-use Rattle.executive.proofs.effect.cleared_by.Reads as reads
-use Rattle.executive.proofs.effect.cleared_by.Lts as lts
 
 sub-t4 : tie.Need-sub-t4
 sub-t4 c = and-le-l _ _

@@ -1,12 +1,10 @@
+-- ENTER writes the caller's entry; EXIT writes 0 over that entry and nothing over another's.
 use borrow.Author.Needs.{needs}
-use native.Mathlib.Omega.{arith}
 use native.Mathlib.Numerals.{add-one}
 use borrow.Author.Tests.{eq-eqb, ne-eqb}
 use Rattle.executive.specs.Effects.{holderAfter}
 use Rattle.executive.proofs.effect.holder_after.Statement.{statement}
 use Rattle.executive.proofs.effect.holder_after.Tie as tie
-use Rattle.executive.proofs.effect.holder_after.Reads as reads
-use Rattle.executive.proofs.effect.holder_after.Lts as lts
 
 add-mine : tie.Need-add-mine
 add-mine c = search needs

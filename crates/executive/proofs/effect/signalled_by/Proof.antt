@@ -1,11 +1,8 @@
+-- One bit is joined to the events, and the task wakes exactly where the condition is met.
 use borrow.Author.Needs.{needs}
-use native.Mathlib.Omega.{arith}
 use Rattle.executive.proofs.Woken.{bit-is, wakes-is, stays-is}
 use Rattle.executive.proofs.effect.signalled_by.Statement.{statement}
 use Rattle.executive.proofs.effect.signalled_by.Tie as tie
-use Rattle.executive.proofs.effect.signalled_by.Reads as reads
-use Rattle.executive.proofs.effect.signalled_by.Lts as lts
-use Rattle.tasks.proofs.met_by.Reads as met-by-reads
 
 cast-arrived : tie.Need-cast-arrived
 cast-arrived c = search needs

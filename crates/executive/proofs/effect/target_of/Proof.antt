@@ -1,3 +1,4 @@
+-- By the operation: the task that a or b names, or the caller.
 use borrow.Author.Needs.{needs}
 use native.Mathlib.Omega.{arith}
 use borrow.Author.Tests.{lt-ltb, le-ltb, eq-eqb, ne-eqb}

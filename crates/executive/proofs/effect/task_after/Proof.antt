@@ -1,15 +1,9 @@
+-- One arm for each kind of change; STOP and END are the rest.
 use borrow.Author.Needs.{needs}
-use native.Mathlib.Omega.{arith}
 use borrow.Author.Tests.{eq-eqb, ne-eqb}
-use mathlib.Core.Path.{_∙_}
 use Rattle.executive.specs.Effects.{taskAfter}
 use Rattle.executive.proofs.effect.task_after.Statement.{statement}
 use Rattle.executive.proofs.effect.task_after.Tie as tie
-use Rattle.executive.proofs.effect.task_after.Reads as reads
-use Rattle.executive.proofs.effect.task_after.Lts as lts
-use Rattle.executive.proofs.effect.cleared_by.Reads as cleared-by-reads
-use Rattle.executive.proofs.effect.signalled_by.Reads as signalled-by-reads
-use Rattle.executive.proofs.effect.waited_by.Reads as waited-by-reads
 
 cast-list : tie.Need-cast-list
 cast-list c = search needs

@@ -1,12 +1,9 @@
+-- Where the condition is met nothing changes; else the task waits.
 use borrow.Author.Needs.{needs}
-use native.Mathlib.Omega.{arith}
 use mathlib.Core.Path.{sym, _∙_}
 use Rattle.rules.specs.Tasks.{waited}
 use Rattle.executive.proofs.effect.waited_by.Statement.{statement}
 use Rattle.executive.proofs.effect.waited_by.Tie as tie
-use Rattle.executive.proofs.effect.waited_by.Reads as reads
-use Rattle.executive.proofs.effect.waited_by.Lts as lts
-use Rattle.tasks.proofs.met_by.Reads as met-by-reads
 
 met-by-requires : tie.Need-met-by-requires
 met-by-requires c κs = search needs

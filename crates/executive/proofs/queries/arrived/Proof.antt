@@ -1,18 +1,10 @@
+-- Where nothing is refused, list and operator fit, so that the remainders change nothing.
 use borrow.Author.Needs.{needs}
-use native.Mathlib.Omega.{arith}
 use mathlib.Core.Path.{_≡_, _∙_}
 use lib.ListN.{length}
 use Rattle.executive.proofs.Replied.{arrived-is}
 use Rattle.executive.proofs.queries.arrived.Statement.{statement}
 use Rattle.executive.proofs.queries.arrived.Tie as tie
-use Rattle.executive.proofs.queries.arrived.Reads as reads
-use Rattle.executive.proofs.queries.arrived.Lts as lts
-use Rattle.executive.proofs.queries.arrived_status.Reads as arrived-status-reads
-use Rattle.executive.proofs.queries.events_at.Reads as events-at-reads
-use Rattle.executive.proofs.queries.is_valid.Reads as is-valid-reads
-use Rattle.executive.proofs.queries.one_if.Reads as one-if-reads
-use Rattle.executive.proofs.queries.reply_of.Reads as reply-of-reads
-use Rattle.tasks.proofs.met_by.Reads as met-by-reads
 
 long : (c : tie.Start) → length (c .args .t1 .arrived) ≡ 32
 long c = search needs

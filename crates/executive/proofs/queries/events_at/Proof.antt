@@ -1,11 +1,9 @@
+-- Past the array the definition gives 0 too.
 use borrow.Author.Needs.{needs}
-use native.Mathlib.Omega.{arith}
 use Rattle.rules.proofs.Counts.{ends}
 use Rattle.refusals.proofs.Flags.{past-end}
 use Rattle.executive.proofs.queries.events_at.Statement.{statement}
 use Rattle.executive.proofs.queries.events_at.Tie as tie
-use Rattle.executive.proofs.queries.events_at.Reads as reads
-use Rattle.executive.proofs.queries.events_at.Lts as lts
 
 mul-result : tie.Need-mul-result
 mul-result c = search needs

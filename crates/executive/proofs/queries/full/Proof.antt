@@ -1,17 +1,10 @@
+-- Where nothing is refused, the queue's list has the length that is stored.
 use borrow.Author.Needs.{needs}
-use native.Mathlib.Omega.{arith}
 use mathlib.Core.Path.{_≡_, _∙_}
 use lib.ListN.{length}
 use Rattle.executive.proofs.Replied.{full-is}
 use Rattle.executive.proofs.queries.full.Statement.{statement}
 use Rattle.executive.proofs.queries.full.Tie as tie
-use Rattle.executive.proofs.queries.full.Reads as reads
-use Rattle.executive.proofs.queries.full.Lts as lts
-use Rattle.executive.proofs.queries.is_valid.Reads as is-valid-reads
-use Rattle.executive.proofs.queries.object_status.Reads as object-status-reads
-use Rattle.executive.proofs.queries.one_if.Reads as one-if-reads
-use Rattle.executive.proofs.queries.reply_of.Reads as reply-of-reads
-use Rattle.refusals.proofs.entry_at.Reads as entry-at-reads
 
 bounds-long : (c : tie.Start) → length (c .args .t1 .bound) ≡ 8
 bounds-long c = search needs

@@ -1,11 +1,9 @@
+-- The arrays have the lengths of their types.
 use borrow.Author.Needs.{needs}
 use native.Mathlib.Omega.{arith}
 use Rattle.refusals.specs.Lent.{Lengths}
 use Rattle.executive.proofs.queries.is_valid.Statement.{statement}
 use Rattle.executive.proofs.queries.is_valid.Tie as tie
-use Rattle.executive.proofs.queries.is_valid.Reads as reads
-use Rattle.executive.proofs.queries.is_valid.Lts as lts
-use Rattle.refusals.proofs.valid_of.Reads as valid-of-reads
 
 long : (c : tie.Start) → Lengths (c .args .t1 .priority) (c .args .t1 .state) (c .args .t1 .arrived) (c .args .t1 .list) (c .args .t1 .operator) (c .args .t1 .holder) (c .args .t1 .bound) (c .args .t1 .length) (c .args .t1 .element) (c .args .t1 .criterion)
 long c = search needs

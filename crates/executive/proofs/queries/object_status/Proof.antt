@@ -1,10 +1,7 @@
+-- The picks stand from the last reason to the first.
 use borrow.Author.Needs.{needs}
-use native.Mathlib.Omega.{arith}
 use Rattle.executive.proofs.queries.object_status.Statement.{statement}
 use Rattle.executive.proofs.queries.object_status.Tie as tie
-use Rattle.executive.proofs.queries.object_status.Reads as reads
-use Rattle.executive.proofs.queries.object_status.Lts as lts
-use Rattle.refusals.proofs.pick.Reads as pick-reads
 
 pick-requires : tie.Need-pick-requires
 pick-requires c κs = search needs

@@ -1,15 +1,9 @@
+-- The value is read as the definition reads it.
 use borrow.Author.Needs.{needs}
-use native.Mathlib.Omega.{arith}
-use mathlib.Core.Path.{_≡_, _∙_}
+use mathlib.Core.Path.{_∙_}
 use Rattle.executive.proofs.Replied.{priority-is}
 use Rattle.executive.proofs.queries.priority.Statement.{statement}
 use Rattle.executive.proofs.queries.priority.Tie as tie
-use Rattle.executive.proofs.queries.priority.Reads as reads
-use Rattle.executive.proofs.queries.priority.Lts as lts
-use Rattle.executive.proofs.queries.is_valid.Reads as is-valid-reads
-use Rattle.executive.proofs.queries.object_status.Reads as object-status-reads
-use Rattle.executive.proofs.queries.reply_of.Reads as reply-of-reads
-use Rattle.refusals.proofs.state_at.Reads as state-at-reads
 
 is-valid-requires : tie.Need-is-valid-requires
 is-valid-requires c κs = search needs

@@ -1,11 +1,8 @@
+-- The value stands only where nothing is refused.
 use borrow.Author.Needs.{needs}
-use native.Mathlib.Omega.{arith}
 use borrow.Author.Tests.{eq-eqb, ne-eqb}
 use Rattle.executive.proofs.queries.reply_of.Statement.{statement}
 use Rattle.executive.proofs.queries.reply_of.Tie as tie
-use Rattle.executive.proofs.queries.reply_of.Reads as reads
-use Rattle.executive.proofs.queries.reply_of.Lts as lts
-use Rattle.executive.proofs.answer.reported_by.Reads as reported-by-reads
 
 reported-by-requires : tie.Need-reported-by-requires
 reported-by-requires c κs = search needs

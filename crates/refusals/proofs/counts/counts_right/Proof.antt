@@ -1,12 +1,9 @@
-use borrow.Author.Needs.{needs}
-use native.Mathlib.Omega.{arith}
+-- The four tests of the definition, joined.
 use mathlib.Core.Bool.{and-true}
 use Rattle.rules.specs.Words.{all}
 use Rattle.rules.specs.Validity.{countsInRange}
 use Rattle.refusals.proofs.counts.counts_right.Statement.{statement}
 use Rattle.refusals.proofs.counts.counts_right.Tie as tie
-use Rattle.refusals.proofs.counts.counts_right.Reads as reads
-use Rattle.refusals.proofs.counts.counts_right.Lts as lts
 
 returns : tie.Need-returns
 unfolding countsInRange all

@@ -1,10 +1,7 @@
+-- The picks stand from the last reason to the first, so the chain is the list's first that applies.
 use borrow.Author.Needs.{needs}
-use native.Mathlib.Omega.{arith}
 use Rattle.refusals.proofs.refusal.early_of.Statement.{statement}
 use Rattle.refusals.proofs.refusal.early_of.Tie as tie
-use Rattle.refusals.proofs.refusal.early_of.Reads as reads
-use Rattle.refusals.proofs.refusal.early_of.Lts as lts
-use Rattle.refusals.proofs.choice.pick.Reads as pick-reads
 
 pick-requires : tie.Need-pick-requires
 pick-requires c κs = search needs

@@ -1,11 +1,9 @@
+-- Past the array the definition gives 0 too.
 use borrow.Author.Needs.{needs}
-use native.Mathlib.Omega.{arith}
 use Rattle.rules.proofs.Counts.{ends}
 use Rattle.refusals.proofs.Flags.{past-end}
 use Rattle.refusals.proofs.refusal.entry_at.Statement.{statement}
 use Rattle.refusals.proofs.refusal.entry_at.Tie as tie
-use Rattle.refusals.proofs.refusal.entry_at.Reads as reads
-use Rattle.refusals.proofs.refusal.entry_at.Lts as lts
 
 element-copy-out-result : tie.Need-element-copy-out-result
 element-copy-out-result c = search needs

@@ -1,10 +1,7 @@
+-- The two entries are read as the definition reads them.
 use borrow.Author.Needs.{needs}
-use native.Mathlib.Omega.{arith}
 use Rattle.refusals.proofs.refusal.full_of.Statement.{statement}
 use Rattle.refusals.proofs.refusal.full_of.Tie as tie
-use Rattle.refusals.proofs.refusal.full_of.Reads as reads
-use Rattle.refusals.proofs.refusal.full_of.Lts as lts
-use Rattle.refusals.proofs.refusal.entry_at.Reads as entry-at-reads
 
 entry-at-requires : tie.Need-entry-at-requires
 entry-at-requires c κs = search needs

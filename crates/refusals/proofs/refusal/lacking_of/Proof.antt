@@ -1,12 +1,8 @@
+-- Only RETRIEVE of a queue that exists is looked up; the definition has the same two cases.
 use borrow.Author.Needs.{needs}
-use native.Mathlib.Omega.{arith}
 use Rattle.refusals.specs.Late.{lacking}
 use Rattle.refusals.proofs.refusal.lacking_of.Statement.{statement}
 use Rattle.refusals.proofs.refusal.lacking_of.Tie as tie
-use Rattle.refusals.proofs.refusal.lacking_of.Reads as reads
-use Rattle.refusals.proofs.refusal.lacking_of.Lts as lts
-use Rattle.queues.proofs.place_of.Reads as place-of-reads
-use Rattle.refusals.proofs.refusal.entry_at.Reads as entry-at-reads
 
 cast-from : tie.Need-cast-from
 cast-from c = search needs

@@ -1,17 +1,8 @@
+-- The picks stand from the last reason to the first, so the chain is the list's first that applies.
 use borrow.Author.Needs.{needs}
-use native.Mathlib.Omega.{arith}
 use Rattle.refusals.specs.Late.{lateFlags}
 use Rattle.refusals.proofs.refusal.late_of.Statement.{statement}
 use Rattle.refusals.proofs.refusal.late_of.Tie as tie
-use Rattle.refusals.proofs.refusal.late_of.Reads as reads
-use Rattle.refusals.proofs.refusal.late_of.Lts as lts
-use Rattle.refusals.proofs.choice.pick.Reads as pick-reads
-use Rattle.refusals.proofs.refusal.full_of.Reads as full-of-reads
-use Rattle.refusals.proofs.refusal.lacking_of.Reads as lacking-of-reads
-use Rattle.refusals.proofs.refusal.leaves_of.Reads as leaves-of-reads
-use Rattle.refusals.proofs.refusal.missing_of.Reads as missing-of-reads
-use Rattle.refusals.proofs.refusal.wrong_state_of.Reads as wrong-state-of-reads
-use Rattle.tasks.proofs.held_by.Reads as held-by-reads
 
 lacking-of-requires : tie.Need-lacking-of-requires
 lacking-of-requires c κs = search needs

@@ -1,12 +1,10 @@
+-- By the operation: at most one flag counts, and it is the definition's entry.
 use borrow.Author.Needs.{needs}
-use native.Mathlib.Omega.{arith}
 use lib.Dec.{eqb}
 use Rattle.rules.specs.Refusals.{leaves}
 use Rattle.refusals.proofs.Flags.{leaves-is}
 use Rattle.refusals.proofs.refusal.leaves_of.Statement.{statement}
 use Rattle.refusals.proofs.refusal.leaves_of.Tie as tie
-use Rattle.refusals.proofs.refusal.leaves_of.Reads as reads
-use Rattle.refusals.proofs.refusal.leaves_of.Lts as lts
 
 cast-result : tie.Need-cast-result
 cast-result c = search needs

@@ -1,11 +1,8 @@
-use borrow.Author.Needs.{needs}
-use native.Mathlib.Omega.{arith}
+-- One arm for each operation computes the entry of the definition's list; past the list nothing is missing.
 use Rattle.rules.specs.Refusals.{missing}
 use Rattle.refusals.proofs.Flags.{missing-past, none-below}
 use Rattle.refusals.proofs.refusal.missing_of.Statement.{statement}
 use Rattle.refusals.proofs.refusal.missing_of.Tie as tie
-use Rattle.refusals.proofs.refusal.missing_of.Reads as reads
-use Rattle.refusals.proofs.refusal.missing_of.Lts as lts
 
 returns : tie.Need-returns
 unfolding missing

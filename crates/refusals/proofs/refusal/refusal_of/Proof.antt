@@ -1,13 +1,8 @@
+-- An early reason is the first of all; without one the table is valid, and the late reasons are the rules' own.
 use borrow.Author.Needs.{needs}
-use native.Mathlib.Omega.{arith}
 use Rattle.refusals.proofs.Refused.{refused-early, refused-late}
 use Rattle.refusals.proofs.refusal.refusal_of.Statement.{statement}
 use Rattle.refusals.proofs.refusal.refusal_of.Tie as tie
-use Rattle.refusals.proofs.refusal.refusal_of.Reads as reads
-use Rattle.refusals.proofs.refusal.refusal_of.Lts as lts
-use Rattle.refusals.proofs.refusal.early_of.Reads as early-of-reads
-use Rattle.refusals.proofs.refusal.late_of.Reads as late-of-reads
-use Rattle.refusals.proofs.validity.valid_of.Reads as valid-of-reads
 
 valid-of-requires : tie.Need-valid-of-requires
 valid-of-requires c κs = search needs

@@ -1,11 +1,8 @@
+-- By the operation: at most one flag counts, and it is the definition's entry.
 use borrow.Author.Needs.{needs}
-use native.Mathlib.Omega.{arith}
 use Rattle.refusals.proofs.Flags.{wrong-is}
 use Rattle.refusals.proofs.refusal.wrong_state_of.Statement.{statement}
 use Rattle.refusals.proofs.refusal.wrong_state_of.Tie as tie
-use Rattle.refusals.proofs.refusal.wrong_state_of.Reads as reads
-use Rattle.refusals.proofs.refusal.wrong_state_of.Lts as lts
-use Rattle.refusals.proofs.refusal.state_at.Reads as state-at-reads
 
 state-at-requires : tie.Need-state-at-requires
 state-at-requires c κs = search needs

@@ -1,19 +1,9 @@
+-- Each part is its definition, and together they are validity of a table of this shape.
 use borrow.Author.Needs.{needs}
-use native.Mathlib.Omega.{arith}
 use Rattle.refusals.specs.Lent.{Lengths}
 use Rattle.refusals.proofs.Checked.{shaped-lent, check-is}
 use Rattle.refusals.proofs.validity.valid_of.Statement.{statement}
 use Rattle.refusals.proofs.validity.valid_of.Tie as tie
-use Rattle.refusals.proofs.validity.valid_of.Reads as reads
-use Rattle.refusals.proofs.validity.valid_of.Lts as lts
-use Rattle.queues.proofs.queues_right.Reads as queues-right-reads
-use Rattle.queues.proofs.criteria_right.Reads as criteria-right-reads
-use Rattle.refusals.proofs.counts.counts_right.Reads as counts-right-reads
-use Rattle.tasks.proofs.tasks_right.Reads as tasks-right-reads
-use Rattle.tasks.proofs.elected_by.Reads as elected-by-reads
-use Rattle.tasks.proofs.held_by.Reads as held-by-reads
-use Rattle.tasks.proofs.holder_right.Reads as holder-right-reads
-use Rattle.tasks.proofs.regions_right.Reads as regions-right-reads
 
 long : (c : tie.Start) → Lengths (c .args .priority .now) (c .args .state .now) (c .args .arrived .now) (c .args .list .now) (c .args .operator .now) (c .args .holder .now) (c .args .bound .now) (c .args .lengths .now) (c .args .element .now) (c .args .criterion .now)
 long c = search needs

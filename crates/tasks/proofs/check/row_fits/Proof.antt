@@ -1,11 +1,8 @@
+-- By the state: each of the three flags is the test of its state, and the types give the widths.
 use borrow.Author.Needs.{needs}
-use native.Mathlib.Omega.{arith}
 use Rattle.tasks.proofs.Rows.{picked-is, right-is, zero-is}
 use Rattle.tasks.proofs.check.row_fits.Statement.{statement}
 use Rattle.tasks.proofs.check.row_fits.Tie as tie
-use Rattle.tasks.proofs.check.row_fits.Reads as reads
-use Rattle.tasks.proofs.check.row_fits.Lts as lts
-use Rattle.tasks.proofs.condition.met_by.Reads as met-by-reads
 
 met-by-requires : tie.Need-met-by-requires
 met-by-requires c κs = search needs

@@ -1,5 +1,5 @@
+-- The flag so far is the test of every task passed.
 use borrow.Author.Needs.{needs}
-use native.Mathlib.Omega.{arith}
 use Prim.Native.Nat.{_≤_, _-_}
 use mathlib.Core.Path.{_≡_}
 use lib.ListN.{getD}
@@ -8,9 +8,6 @@ use Rattle.rules.proofs.Counts.{below-again, below-end}
 use Rattle.rules.proofs.Validity.{rowFits, tasksRight}
 use Rattle.tasks.proofs.check.tasks_right.Statement.{statement}
 use Rattle.tasks.proofs.check.tasks_right.Tie as tie
-use Rattle.tasks.proofs.check.tasks_right.Reads as reads
-use Rattle.tasks.proofs.check.tasks_right.Lts as lts
-use Rattle.tasks.proofs.check.row_fits.Reads as row-fits-reads
 
 abbrev Inv-loop : tie.InvT-loop
 Inv-loop tasks priority state arrived list operator ok₀ i₀ ok i = (i ≤ 32) × (ok ≡ below i (λ j. rowFits tasks j (getD priority j 0) (getD state j 0) (getD arrived j 0) (getD list j 0) (getD operator j 0)))

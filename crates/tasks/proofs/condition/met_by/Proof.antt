@@ -1,5 +1,4 @@
-use borrow.Author.Needs.{needs}
-use native.Mathlib.Omega.{arith}
+-- The code picks one of two tests without a branch; the definition picks the same one.
 use mathlib.Core.Bool.{not}
 use lib.Bits.{bitAnd}
 use lib.Dec.{eqb}
@@ -8,8 +7,6 @@ use Rattle.rules.specs.Events.{met}
 use Rattle.tasks.proofs.Rows.{picked}
 use Rattle.tasks.proofs.condition.met_by.Statement.{statement}
 use Rattle.tasks.proofs.condition.met_by.Tie as tie
-use Rattle.tasks.proofs.condition.met_by.Reads as reads
-use Rattle.tasks.proofs.condition.met_by.Lts as lts
 
 returns : tie.Need-returns
 unfolding met

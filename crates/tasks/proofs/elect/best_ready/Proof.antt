@@ -1,5 +1,5 @@
+-- The lowest number of the smallest priority.
 use borrow.Author.Needs.{needs}
-use native.Mathlib.Omega.{arith}
 use mathlib.Core.Path.{ap, _∙_}
 use mathlib.Core.Bool.{_&&_}
 use denote.Ref.{now}
@@ -8,10 +8,6 @@ use Rattle.rules.specs.Numbers.{taskRoom}
 use Rattle.rules.specs.Election.{lowest, readyAt, priorityAt, isBest, bestReady}
 use Rattle.tasks.proofs.elect.best_ready.Statement.{statement}
 use Rattle.tasks.proofs.elect.best_ready.Tie as tie
-use Rattle.tasks.proofs.elect.best_ready.Reads as reads
-use Rattle.tasks.proofs.elect.best_ready.Lts as lts
-use Rattle.tasks.proofs.elect.lowest_of.Reads as lowest-of-reads
-use Rattle.tasks.proofs.elect.smallest_of.Reads as smallest-of-reads
 
 smallest-of-requires : tie.Need-smallest-of-requires
 smallest-of-requires c κs = search needs

@@ -1,13 +1,9 @@
+-- The holder behind the entry, or the best ready task where there is none.
 use borrow.Author.Needs.{needs}
-use native.Mathlib.Omega.{arith}
-use mathlib.Core.Path.{_∙_, sym}
 use Rattle.rules.proofs.Election.{electedBy}
 use borrow.Author.Tests.{eq-eqb, ne-eqb}
 use Rattle.tasks.proofs.elect.elected_by.Statement.{statement}
 use Rattle.tasks.proofs.elect.elected_by.Tie as tie
-use Rattle.tasks.proofs.elect.elected_by.Reads as reads
-use Rattle.tasks.proofs.elect.elected_by.Lts as lts
-use Rattle.tasks.proofs.elect.best_ready.Reads as best-ready-reads
 
 best-ready-requires : tie.Need-best-ready-requires
 best-ready-requires c κs = search needs

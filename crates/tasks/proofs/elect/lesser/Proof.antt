@@ -1,11 +1,8 @@
-use borrow.Author.Needs.{needs}
-use native.Mathlib.Omega.{arith}
+-- Either the task is ready and its priority the smaller, or the other number stays.
 use lib.Dec.{eqb}
 use Rattle.tasks.proofs.Rows.{lesser-first, lesser-second}
 use Rattle.tasks.proofs.elect.lesser.Statement.{statement}
 use Rattle.tasks.proofs.elect.lesser.Tie as tie
-use Rattle.tasks.proofs.elect.lesser.Reads as reads
-use Rattle.tasks.proofs.elect.lesser.Lts as lts
 
 returns : tie.Need-returns
 returns c = lesser-first (eqb (c .before .args .state) 1) (c .before .args .priority) (c .before .args .p) (c .if1 .taken)

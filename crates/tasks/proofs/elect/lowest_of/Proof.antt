@@ -1,5 +1,5 @@
+-- None of the tasks passed has it, so the first that has it is the lowest.
 use borrow.Author.Needs.{needs}
-use native.Mathlib.Omega.{arith}
 use Prim.Native.Nat.{_≤_, _-_}
 use mathlib.Core.Path.{_≡_, sym, _∙_}
 use mathlib.Core.Bool.{_&&_}
@@ -9,9 +9,6 @@ use Rattle.rules.specs.Election.{lowest, readyAt, priorityAt}
 use Rattle.rules.proofs.Election.{lowest-again, lowest-end, lowest-found}
 use Rattle.tasks.proofs.elect.lowest_of.Statement.{statement}
 use Rattle.tasks.proofs.elect.lowest_of.Tie as tie
-use Rattle.tasks.proofs.elect.lowest_of.Reads as reads
-use Rattle.tasks.proofs.elect.lowest_of.Lts as lts
-use Rattle.tasks.proofs.elect.has_it.Reads as has-it-reads
 
 abbrev Inv-loop : tie.InvT-loop
 Inv-loop state priority p i₀ i = (i ≤ 32) × (lowest i (λ j. readyAt state j && eqb (priorityAt priority j) p) ≡ nobody)

@@ -1,14 +1,11 @@
+-- The number so far is the smallest of the tasks passed.
 use borrow.Author.Needs.{needs}
-use native.Mathlib.Omega.{arith}
 use Prim.Native.Nat.{_≤_, _-_}
 use mathlib.Core.Path.{_≡_}
 use Rattle.rules.specs.Election.{smallest, readyAt, priorityAt}
 use Rattle.rules.proofs.Election.{smallest-again, smallest-end}
 use Rattle.tasks.proofs.elect.smallest_of.Statement.{statement}
 use Rattle.tasks.proofs.elect.smallest_of.Tie as tie
-use Rattle.tasks.proofs.elect.smallest_of.Reads as reads
-use Rattle.tasks.proofs.elect.smallest_of.Lts as lts
-use Rattle.tasks.proofs.elect.lesser.Reads as lesser-reads
 
 abbrev Inv-loop : tie.InvT-loop
 Inv-loop state priority p₀ i₀ p i = (i ≤ 32) × (p ≡ smallest i (readyAt state) (priorityAt priority))

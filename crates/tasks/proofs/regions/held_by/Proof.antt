@@ -1,5 +1,5 @@
+-- The regions passed are free, so what is left says the same as the whole.
 use borrow.Author.Needs.{needs}
-use native.Mathlib.Omega.{arith}
 use Prim.Native.Nat.{_≤_, _-_}
 use mathlib.Core.Path.{_≡_}
 use lib.ListN.{drop}
@@ -8,8 +8,6 @@ use Rattle.rules.proofs.Counts.{ends}
 use Rattle.tasks.proofs.Loops.{held-again, held-here, held-end}
 use Rattle.tasks.proofs.regions.held_by.Statement.{statement}
 use Rattle.tasks.proofs.regions.held_by.Tie as tie
-use Rattle.tasks.proofs.regions.held_by.Reads as reads
-use Rattle.tasks.proofs.regions.held_by.Lts as lts
 
 abbrev Inv-loop : tie.InvT-loop
 Inv-loop holder i₀ i = (i ≤ 16) × (held (drop i holder) ≡ held holder)

@@ -1,11 +1,9 @@
+-- No entry, an entry past the count, a task's, or one past all tasks.
 use borrow.Author.Needs.{needs}
-use native.Mathlib.Omega.{arith}
 use Rattle.rules.proofs.Counts.{ends}
 use Rattle.tasks.proofs.Loops.{no-holder, holder-past, holder-is, holder-none}
 use Rattle.tasks.proofs.regions.holder_right.Statement.{statement}
 use Rattle.tasks.proofs.regions.holder_right.Tie as tie
-use Rattle.tasks.proofs.regions.holder_right.Reads as reads
-use Rattle.tasks.proofs.regions.holder_right.Lts as lts
 
 returns : tie.Need-returns
 returns c = no-holder _ _ _ (c .if1 .taken)

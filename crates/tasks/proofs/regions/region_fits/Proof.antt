@@ -1,10 +1,8 @@
+-- The test is the definition's own.
 use borrow.Author.Needs.{needs}
-use native.Mathlib.Omega.{arith}
 use Rattle.rules.proofs.Validity.{regionFits}
 use Rattle.tasks.proofs.regions.region_fits.Statement.{statement}
 use Rattle.tasks.proofs.regions.region_fits.Tie as tie
-use Rattle.tasks.proofs.regions.region_fits.Reads as reads
-use Rattle.tasks.proofs.regions.region_fits.Lts as lts
 
 returns : tie.Need-returns
 unfolding regionFits

@@ -1,5 +1,5 @@
+-- The flag so far is the test of every region passed.
 use borrow.Author.Needs.{needs}
-use native.Mathlib.Omega.{arith}
 use Prim.Native.Nat.{_≤_, _-_}
 use mathlib.Core.Path.{_≡_}
 use lib.ListN.{getD}
@@ -8,9 +8,6 @@ use Rattle.rules.proofs.Counts.{below-again, below-end}
 use Rattle.rules.proofs.Validity.{regionFits, regionsRight}
 use Rattle.tasks.proofs.regions.regions_right.Statement.{statement}
 use Rattle.tasks.proofs.regions.regions_right.Tie as tie
-use Rattle.tasks.proofs.regions.regions_right.Reads as reads
-use Rattle.tasks.proofs.regions.regions_right.Lts as lts
-use Rattle.tasks.proofs.regions.region_fits.Reads as region-fits-reads
 
 abbrev Inv-loop : tie.InvT-loop
 Inv-loop regions v holder ok₀ i₀ ok i = (i ≤ 16) × (ok ≡ below i (λ j. regionFits regions v j (getD holder j 0)))
