@@ -1,11 +1,5 @@
-// The executive: a fresh table, one call, and five queries. Every table and every call gets an answer, and each answer is the one that the
-// rules give.
-mod answer;
-mod calls;
-mod configure;
-mod effect;
-mod queries;
-
+// The executive's public face: a fresh table, one call, and five queries. Every table and every call gets an answer, and each answer is the
+// one that the rules give.
 pub use calls::call;
 pub use configure::fresh;
 pub use queries::arrived;

@@ -1,0 +1,169 @@
+-- What an accepted call knows: who calls, which task it changes, and that its numbers fit.
+use Prim.Native.Nat.{ℕ, _%_, _<_, _≤_}
+use mathlib.Core.Path.{_≡_, refl, ap, _∙_}
+use mathlib.Core.Logic.{_≢_, _⊎_, inl, inr, ⊎-elim}
+use mathlib.Core.Bool.{Bool, true, false, cond, not, _&&_, true≢false}
+use native.Mathlib.Omega.{arith}
+use native.Mathlib.Nat.{mod-eq-of-lt}
+use lib.Dec.{eqb, ltb}
+use lib.ListN.{getD, set}
+use borrow.Author.Tests.{eqb-true, eqb-false, ne-eqb, ltb-true, ltb-false, leb-true, not-false}
+use Rattle.rules.specs.declared.Table.{Table}
+use Rattle.rules.specs.declared.Call.{Call}
+use Rattle.rules.specs.Numbers.{taskRoom, regionRoom, outside, SIGNAL, WAIT, ENTER, EXIT}
+use Rattle.rules.specs.Words.{isZero}
+use Rattle.rules.specs.Regions.{entered, exited}
+use Rattle.rules.specs.Queues.{noPair}
+use Rattle.rules.specs.Events.{met}
+use Rattle.rules.specs.Tasks.{waited}
+use Rattle.rules.specs.Tables.{taskOf, changed, withHolders}
+use Rattle.rules.specs.Validity.{countsInRange}
+use Rattle.rules.specs.Refusals.{missing}
+use Rattle.rules.specs.Effects.{Effect, plain, effect}
+use Rattle.rules.proofs.Bools.{given, or-left, or-right}
+use Rattle.rules.proofs.Validity.{Parts, parts-of, elected-below}
+use Rattle.rules.proofs.Refusals.{Accepted}
+use Rattle.rules.proofs.Lists.{altered-set}
+use Rattle.rules.proofs.Effects.{upto}
+use Rattle.calls.specs.Effects.{target, taskAfter, holderAfter}
+
+module _ (t : Table) (c : Call) (a : Accepted t c) where
+  parts : Parts t
+  parts = parts-of t (a .is-valid)
+
+  -- ---- who calls
+
+  inside : (x y : Bool) → (x && true) ≡ false → (not x && not y) ≡ false → (x ≡ false) × (y ≡ true)
+  inside true y h k = absurd (true≢false h)
+  inside false y h k = (refl, not-false y k)
+
+  -- all but SIGNAL are called by the elected task
+  pub caller-is : c .operation ≢ SIGNAL → (c .caller ≢ outside) × (c .caller ≡ t .elected)
+  caller-is n =
+      let p = inside (eqb (c .caller) outside) (eqb (c .caller) (t .elected)) (rw (ne-eqb (c .operation) SIGNAL n) at (a .barred)) (a .not-elected) in
+      (eqb-false (c .caller) outside (p .0), eqb-true (c .caller) (t .elected) (p .1))
+
+  pub caller-below : c .operation ≢ SIGNAL → c .caller < t .tasks
+  caller-below n = let p = caller-is n in rw (p .1) (elected-below t parts (λ z. p .0 (p .1 ∙ z)))
+
+  -- ---- the counts
+
+  pub tasks-fit : t .tasks ≤ taskRoom
+  unfolding countsInRange
+  tasks-fit = leb-true (t .tasks) taskRoom (given _ (parts .counts) .1 .0)
+
+  pub regions-fit : t .regions ≤ regionRoom
+  unfolding countsInRange
+  regions-fit = leb-true (t .regions) regionRoom (given _ (parts .counts) .1 .1 .0)
+
+  -- ---- the numbers of the call fit
+
+  within : (x n : ℕ) → not (ltb x n) ≡ false → x < n
+  within x n h = ltb-true x n (not-false (ltb x n) h)
+
+  event-fits : c .operation ≡ 3 → c .a % 16 ≡ c .a
+  unfolding missing
+  event-fits e = mod-eq-of-lt (within (c .a) 16 (or-left _ _ (rw e at (a .nothing-missing))))
+
+  list-below : (c .operation ≡ 4) → c .a < 65536
+  unfolding missing
+  list-below e = let h = ltb-false 65535 (c .a) (or-right (isZero (c .a)) _ (rw e at (a .nothing-missing))) in omega arith
+
+  clear-below : (c .operation ≡ 5) → c .a < 65536
+  unfolding missing
+  clear-below e = let h = ltb-false 65535 (c .a) (or-right (isZero (c .a)) _ (rw e at (a .nothing-missing))) in omega arith
+
+  operator-below : c .operation ≡ 4 → c .b < 256
+  operator-below e = let h = ltb-false 1 (c .b) (rw e at (a .operator-fits)) in omega arith
+
+  -- ---- which task
+
+  abbrev TargetBelow : ℕ → Type 0
+  TargetBelow n = c .operation ≡ n → target c < t .tasks
+
+  pub target-below : c .operation < 6 → target c < t .tasks
+  unfolding target missing
+  target-below h =
+      upto 6 TargetBelow (
+        λ e. rw e (within (c .a) (t .tasks) (rw e at (a .nothing-missing))),
+        (
+          λ e. rw e (within (c .a) (t .tasks) (rw e at (a .nothing-missing))),
+          (
+            λ e. rw e (caller-below (omega arith)),
+            (
+              λ e. rw e (within (c .b) (t .tasks) (or-right (not (ltb (c .a) 16)) _ (rw e at (a .nothing-missing)))),
+              (
+                λ e. rw e (caller-below (omega arith)),
+                (λ e. rw e (caller-below (omega arith)), tt),
+              ),
+            ),
+          ),
+        ),
+      )
+      (c .operation) h refl
+
+  -- ---- the first six operations as one change of one task
+
+  abbrev taskEffect : Effect
+  taskEffect =
+      record {
+        table = changed (target c) (taskAfter c) t;
+        status = cond (eqb (c .operation) WAIT && not (met (c .b % 256) (c .a % 65536) (taskOf t (target c) .arrived))) 1 0;
+        given = noPair;
+      }
+
+  pub task-effect : c .operation < 6 → effect t c ≡ taskEffect
+  unfolding effect target taskAfter
+  task-effect h =
+      upto 6 (λ n. c .operation ≡ n → effect t c ≡ taskEffect) (
+        λ e. rw e refl,
+        (
+          λ e. rw e refl,
+          (
+            λ e. rw e refl,
+            (
+              λ e. rw (e, event-fits e) refl,
+              (
+                λ e. rw (e, mod-eq-of-lt (list-below e), mod-eq-of-lt (operator-below e)) (waits (c .caller)),
+                (λ e. rw (e, mod-eq-of-lt (clear-below e)) refl, tt),
+              ),
+            ),
+          ),
+        ),
+      )
+      (c .operation) h refl
+    where
+      -- the status of WAIT, said the other way round
+      flip : (b : Bool) → _≡_ {A = ℕ} (cond b 0 1) (cond (not b) 1 0)
+      flip true = refl
+      flip false = refl
+
+      with-status : ℕ → ℕ → Effect
+      with-status i s = record { table = changed i (waited (c .a) (c .b)) t; status = s; given = noPair }
+
+      waits : (i : ℕ) → with-status i (cond (met (c .b) (c .a) (taskOf t i .arrived)) 0 1) ≡ with-status i (cond (not (met (c .b) (c .a) (taskOf t i .arrived))) 1 0)
+      waits i = ap (with-status i) (flip (met (c .b) (c .a) (taskOf t i .arrived)))
+
+  -- ---- ENTER and EXIT as one change of one entry
+
+  enter-or-exit : 5 < c .operation → c .operation < 8 → (c .operation ≡ ENTER) ⊎ (c .operation ≡ EXIT)
+  enter-or-exit l h = go (eqb (c .operation) ENTER) refl
+    where
+      go : (b : Bool) → eqb (c .operation) ENTER ≡ b → (c .operation ≡ ENTER) ⊎ (c .operation ≡ EXIT)
+      go true e = inl (eqb-true (c .operation) ENTER e)
+      go false e = let n : c .operation ≢ ENTER = eqb-false (c .operation) ENTER e in inr (omega arith)
+
+  pub region-there : 5 < c .operation → c .operation < 8 → c .a < t .regions
+  unfolding missing
+  region-there l h =
+      ⊎-elim (λ e. within (c .a) (t .regions) (rw e at (a .nothing-missing)))
+      (λ e. within (c .a) (t .regions) (rw e at (a .nothing-missing)))
+      (enter-or-exit l h)
+
+  pub region-effect : 5 < c .operation → c .operation < 8
+      → effect t c ≡ plain (withHolders (set (t .holder) (c .a) (holderAfter c (getD (t .holder) (c .a) 0))) t)
+  unfolding effect holderAfter
+  region-effect l h =
+      ⊎-elim (λ e. rw e (ap (λ holders. plain (withHolders holders t)) (altered-set (entered (c .caller)) (c .a) 0 (t .holder))))
+      (λ e. rw e (ap (λ holders. plain (withHolders holders t)) (altered-set (exited (c .caller)) (c .a) 0 (t .holder))))
+      (enter-or-exit l h)

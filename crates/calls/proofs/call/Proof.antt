@@ -1,0 +1,262 @@
+-- A refused call hands the table back. An accepted one is a change of one task, of one region's entry, or of one queue's places;
+-- what the code builds in each case is the step, by the laws of proofs/Done.antt.
+use borrow.Author.Needs.{needs}
+use native.Mathlib.Omega.{arith}
+use mathlib.Core.Path.{_≡_, refl, sym, _∙_}
+use Prim.Native.Nat.{_<_, _≤_}
+use lib.ListN.{length, length-set}
+use Rattle.rules.specs.declared.Table.{Table}
+use Rattle.rules.specs.declared.Call.{Call}
+use Rattle.rules.specs.Numbers.{SEND, RETRIEVE}
+use Rattle.rules.specs.Refusals.{refusal}
+use Rattle.rules.proofs.Refusals.{Accepted, accepted-facts}
+use Rattle.refusals.specs.Lent.{Lengths}
+use Rattle.calls.specs.Effects.{target}
+use Rattle.calls.proofs.Accepted.{target-below, tasks-fit, region-there, regions-fit, caller-below}
+use Rattle.calls.proofs.Done.{Fits, refused-done, task-done, region-done, free, send-done, found, retrieve-done, retrieve-is, retrieve-some, queue-fits}
+use Rattle.calls.proofs.call.Statement.{statement}
+use Rattle.calls.proofs.call.Tie as tie
+
+long : (c : tie.Start) → Lengths (c .args .t1 .priority) (c .args .t1 .state) (c .args .t1 .arrived) (c .args .t1 .list) (c .args .t1 .operator) (c .args .t1 .holder) (c .args .t1 .bound) (c .args .t1 .length) (c .args .t1 .element) (c .args .t1 .criterion)
+long c = search needs
+
+abbrev table : tie.Else1 → Table
+table c = c .before .before .before .before .before .before .before .before .before .before .before .before .before .args .t1
+
+abbrev call : tie.Else1 → Call
+call c = c .before .before .before .before .before .before .before .before .before .before .before .before .before .args .k
+
+-- nothing is refused from here on
+zero : (c : tie.Else1) → refusal (table c) (call c) ≡ 0
+zero c = sym (c .before .refusal-of .ensures) ∙ c .if1 .left
+
+facts : (c : tie.Else1) → Accepted (table c) (call c)
+facts c = accepted-facts (table c) (call c) (zero c)
+
+task-there : (c : tie.Else1) → call c .operation < 6 → target (call c) < 32
+task-there c h = omega (arith, target-below (table c) (call c) (facts c) h, tasks-fit (table c) (call c) (facts c))
+
+region-small : (c : tie.Else1) → 6 ≤ call c .operation → call c .operation < 8 → call c .a < 16
+region-small c l h = omega (arith, region-there (table c) (call c) (facts c) l h, regions-fit (table c) (call c) (facts c))
+
+caller-small : (c : tie.Else1) → 6 ≤ call c .operation → call c .caller < 255
+caller-small c l = omega (arith, caller-below (table c) (call c) (facts c) (omega arith), tasks-fit (table c) (call c) (facts c))
+
+queue-there : (c : tie.Else1) → 8 ≤ call c .operation → Fits (table c) (call c)
+queue-there c l = queue-fits (table c) (call c) (zero c) l
+
+is-retrieve : (c : tie.Else1) → 8 ≤ call c .operation → (call c .operation ≡ SEND → ⊥) → call c .operation ≡ RETRIEVE
+is-retrieve c l n = retrieve-is (table c) (call c) (zero c) l n
+
+refusal-of-requires : tie.Need-refusal-of-requires
+refusal-of-requires c κs = let l = long (c .before .before .before .before .before .before .before .before .before .before .before) in omega arith
+
+reported-by-requires : tie.Need-reported-by-requires
+reported-by-requires c κs = search needs
+
+returns : tie.Need-returns
+returns c = refused-done _ _ _ _ (c .before .before .refusal-of .ensures) (c .before .if1 .taken) (c .reported-by .ensures)
+
+target-of-requires : tie.Need-target-of-requires
+target-of-requires c κs = search needs
+
+cast-i : tie.Need-cast-i
+cast-i c = search needs
+
+element-copy-out-t49 : tie.Need-element-copy-out-t49
+element-copy-out-t49 c = omega (arith, c .target-of .ensures, task-there (c .before .before) (c .before .if2 .taken))
+
+mul-t50 : tie.Need-mul-t50
+mul-t50 c = search needs
+
+element-copy-out-t53 : tie.Need-element-copy-out-t53
+element-copy-out-t53 c = omega (arith, c .before .target-of .ensures, task-there (c .before .before .before) (c .before .before .if2 .taken))
+
+mul-met-by : tie.Need-mul-met-by
+mul-met-by c = search needs
+
+element-copy-out-met-by : tie.Need-element-copy-out-met-by
+element-copy-out-met-by c = omega (arith, c .before .before .target-of .ensures, task-there (c .before .before .before .before) (c .before .before .before .if2 .taken))
+
+element-copy-out-met-by-2 : tie.Need-element-copy-out-met-by-2
+element-copy-out-met-by-2 c = omega (arith, c .before .before .before .target-of .ensures, task-there (c .before .before .before .before .before) (c .before .before .before .before .if2 .taken))
+
+cast-met-by : tie.Need-cast-met-by
+cast-met-by c = search needs
+
+cast-met-by-2 : tie.Need-cast-met-by-2
+cast-met-by-2 c = search needs
+
+met-by-requires : tie.Need-met-by-requires
+met-by-requires c κs = search needs
+
+task-after-requires : tie.Need-task-after-requires
+task-after-requires c κs = search needs
+
+element-write-t : tie.Need-element-write-t
+element-write-t c = omega (arith, c .before .before .before .before .before .before .before .before .target-of .ensures, task-there (c .before .before .before .before .before .before .before .before .before .before) (c .before .before .before .before .before .before .before .before .before .if2 .taken))
+
+mul-t : tie.Need-mul-t
+mul-t c = search needs
+
+element-write-t-2 : tie.Need-element-write-t-2
+element-write-t-2 c = omega (arith, c .before .before .before .before .before .before .before .before .target-of .ensures, task-there (c .before .before .before .before .before .before .before .before .before .before) (c .before .before .before .before .before .before .before .before .before .if2 .taken))
+
+mul-t-2 : tie.Need-mul-t-2
+mul-t-2 c = search needs
+
+element-write-t-3 : tie.Need-element-write-t-3
+element-write-t-3 c = omega (arith, c .before .before .before .before .before .before .before .before .target-of .ensures, task-there (c .before .before .before .before .before .before .before .before .before .before) (c .before .before .before .before .before .before .before .before .before .if2 .taken))
+
+element-write-t-4 : tie.Need-element-write-t-4
+element-write-t-4 c = omega (arith, c .before .before .before .before .before .before .before .before .target-of .ensures, task-there (c .before .before .before .before .before .before .before .before .before .before) (c .before .before .before .before .before .before .before .before .before .if2 .taken))
+
+held-by-requires : tie.Need-held-by-requires
+held-by-requires c κs = long (c .before .before .before .before .before .before .before .before .before .before .before .before .before .before .before .before .before .before .before .before .before .before .before .before .before) .holder-long
+
+elected-by-requires : tie.Need-elected-by-requires
+elected-by-requires c κs = (rw length-set (long (c .before .before .before .before .before .before .before .before .before .before .before .before .before .before .before .before .before .before .before .before .before .before .before .before .before .before .before .before .before) .state-long), long (c .before .before .before .before .before .before .before .before .before .before .before .before .before .before .before .before .before .before .before .before .before .before .before .before .before .before .before .before .before) .priority-long)
+
+pick-requires : tie.Need-pick-requires
+pick-requires c κs = search needs
+
+returns-2 : tie.Need-returns-2
+returns-2 c = task-done _ _ (zero (c .before .before .before .before .before .before .before .before .before .before .before .before .before .before .before .before .before .before)) (c .before .before .before .before .before .before .before .before .before .before .before .before .before .before .before .before .before .if2 .taken) _ (c .before .before .before .before .before .before .before .before .before .before .before .before .before .before .before .before .target-of .ensures) _ _ _ _ _ (c .before .before .before .before .before .before .before .before .task-after .ensures) (c .before .before .before .before .before .before .before .before .before .met-by .ensures) (c .before .before .before .before .before .held-by .ensures) (c .before .elected-by .ensures) (c .pick .ensures)
+
+cast-at : tie.Need-cast-at
+cast-at c = search needs
+
+element-copy-out-holder-after : tie.Need-element-copy-out-holder-after
+element-copy-out-holder-after c = region-small (c .before .before .before) (c .before .before .if2 .left) (c .if3 .taken)
+
+holder-after-requires : tie.Need-holder-after-requires
+holder-after-requires c κs = caller-small (c .before .before .before .before) (c .before .before .before .if2 .left)
+
+element-write-t-5 : tie.Need-element-write-t-5
+element-write-t-5 c = region-small (c .before .before .before .before .before) (c .before .before .before .before .if2 .left) (c .before .before .if3 .taken)
+
+held-by-requires-2 : tie.Need-held-by-requires-2
+held-by-requires-2 c κs = rw length-set (long (c .before .before .before .before .before .before .before .before .before .before .before .before .before .before .before .before .before .before .before .before) .holder-long)
+
+elected-by-requires-2 : tie.Need-elected-by-requires-2
+elected-by-requires-2 c κs = (long (c .before .before .before .before .before .before .before .before .before .before .before .before .before .before .before .before .before .before .before .before .before .before .before .before) .state-long, long (c .before .before .before .before .before .before .before .before .before .before .before .before .before .before .before .before .before .before .before .before .before .before .before .before) .priority-long)
+
+returns-3 : tie.Need-returns-3
+returns-3 c = region-done _ _ (zero (c .before .before .before .before .before .before .before .before .before .before .before .before)) (c .before .before .before .before .before .before .before .before .before .before .before .if2 .left) (c .before .before .before .before .before .before .before .before .before .if3 .taken) _ _ _ (c .before .before .before .before .before .before .before .holder-after .ensures) (c .before .before .before .before .held-by2 .ensures) (c .elected-by2 .ensures)
+
+element-copy-out-n : tie.Need-element-copy-out-n
+element-copy-out-n c = queue-there (c .before .before .before) (c .if3 .left) .queue-small
+
+mul-from : tie.Need-mul-from
+mul-from c = search needs
+
+cast-end : tie.Need-cast-end
+cast-end c = let f = queue-there (c .before .before .before .before) (c .before .if3 .left) in omega arith
+
+add-end : tie.Need-add-end
+add-end c = let f = queue-there (c .before .before .before .before) (c .before .if3 .left) in omega arith
+
+mul-t-3 : tie.Need-mul-t-3
+mul-t-3 c = let f = queue-there (c .before .before .before .before .before) (c .before .before .if3 .left) in omega arith
+
+element-write-t-6 : tie.Need-element-write-t-6
+element-write-t-6 c = let f = queue-there (c .before .before .before .before .before) (c .before .before .if3 .left) in omega (arith, free _ _ (zero (c .before .before .before .before .before)) (c .if4 .taken))
+
+cast-t : tie.Need-cast-t
+cast-t c = search needs
+
+element-write-t-7 : tie.Need-element-write-t-7
+element-write-t-7 c = let f = queue-there (c .before .before .before .before .before .before) (c .before .before .before .if3 .left) in omega (arith, free _ _ (zero (c .before .before .before .before .before .before)) (c .before .if4 .taken))
+
+add-t : tie.Need-add-t
+add-t c = let f = queue-there (c .before .before .before .before .before .before) (c .before .before .before .if3 .left) in omega arith
+
+element-write-t-8 : tie.Need-element-write-t-8
+element-write-t-8 c = queue-there (c .before .before .before .before .before .before) (c .before .before .before .if3 .left) .queue-small
+
+returns-4 : tie.Need-returns-4
+returns-4 c = send-done _ _ (zero (c .before .before .before .before .before .before)) (c .before .if4 .taken)
+
+place-of-requires : tie.Need-place-of-requires
+place-of-requires c κs = long (c .before .before .before .before .before .before .before .before .before .before .before .before .before .before .before .before .before .before .before .before) .criterion-long
+
+mul-value : tie.Need-mul-value
+mul-value c = let f = queue-there (c .before .before .before .before .before .before .before .before) (c .before .before .before .before .before .if3 .left) in omega (arith, found _ _ (zero (c .before .before .before .before .before .before .before .before)) (is-retrieve (c .before .before .before .before .before .before .before .before) (c .before .before .before .before .before .if3 .left) (c .before .before .before .if4 .left)) _ (c .place-of .ensures))
+
+element-copy-out-value : tie.Need-element-copy-out-value
+element-copy-out-value c = let f = queue-there (c .before .before .before .before .before .before .before .before) (c .before .before .before .before .before .if3 .left) in omega (arith, found _ _ (zero (c .before .before .before .before .before .before .before .before)) (is-retrieve (c .before .before .before .before .before .before .before .before) (c .before .before .before .before .before .if3 .left) (c .before .before .before .if4 .left)) _ (c .place-of .ensures))
+
+element-copy-out-key : tie.Need-element-copy-out-key
+element-copy-out-key c = let f = queue-there (c .before .before .before .before .before .before .before .before .before) (c .before .before .before .before .before .before .if3 .left) in omega (arith, found _ _ (zero (c .before .before .before .before .before .before .before .before .before)) (is-retrieve (c .before .before .before .before .before .before .before .before .before) (c .before .before .before .before .before .before .if3 .left) (c .before .before .before .before .if4 .left)) _ (c .before .place-of .ensures))
+
+close-elements-requires : tie.Need-close-elements-requires
+close-elements-requires c κs = long (c .before .before .before .before .before .before .before .before .before .before .before .before .before .before .before .before .before .before .before .before .before .before .before .before) .element-long
+
+close-criteria-requires : tie.Need-close-criteria-requires
+close-criteria-requires c κs = long (c .before .before .before .before .before .before .before .before .before .before .before .before .before .before .before .before .before .before .before .before .before .before .before .before .before .before) .criterion-long
+
+sub-t : tie.Need-sub-t
+sub-t c = retrieve-some _ _ (zero (c .before .before .before .before .before .before .before .before .before .before .before .before .before .before)) (is-retrieve (c .before .before .before .before .before .before .before .before .before .before .before .before .before .before) (c .before .before .before .before .before .before .before .before .before .before .before .if3 .left) (c .before .before .before .before .before .before .before .before .before .if4 .left))
+
+element-write-t-9 : tie.Need-element-write-t-9
+element-write-t-9 c = queue-there (c .before .before .before .before .before .before .before .before .before .before .before .before .before .before) (c .before .before .before .before .before .before .before .before .before .before .before .if3 .left) .queue-small
+
+returns-5 : tie.Need-returns-5
+returns-5 c = retrieve-done _ _ (zero (c .before .before .before .before .before .before .before .before .before .before .before .before .before .before)) (is-retrieve (c .before .before .before .before .before .before .before .before .before .before .before .before .before .before) (c .before .before .before .before .before .before .before .before .before .before .before .if3 .left) (c .before .before .before .before .before .before .before .before .before .if4 .left)) _ (c .before .before .before .before .before .before .place-of .ensures) _ _ _ _ refl refl (c .before .before .close-elements .ensures) (c .close-criteria .ensures)
+
+pub call-spec : {M : Type 1} → statement M
+call-spec =
+    tie.close
+    (tie.spec
+    refusal-of-requires
+    reported-by-requires
+    returns
+    target-of-requires
+    cast-i
+    element-copy-out-t49
+    mul-t50
+    element-copy-out-t53
+    mul-met-by
+    element-copy-out-met-by
+    element-copy-out-met-by-2
+    cast-met-by
+    cast-met-by-2
+    met-by-requires
+    task-after-requires
+    element-write-t
+    mul-t
+    element-write-t-2
+    mul-t-2
+    element-write-t-3
+    element-write-t-4
+    held-by-requires
+    elected-by-requires
+    pick-requires
+    returns-2
+    cast-at
+    element-copy-out-holder-after
+    holder-after-requires
+    element-write-t-5
+    held-by-requires-2
+    elected-by-requires-2
+    returns-3
+    element-copy-out-n
+    mul-from
+    cast-end
+    add-end
+    mul-t-3
+    element-write-t-6
+    cast-t
+    element-write-t-7
+    add-t
+    element-write-t-8
+    returns-4
+    place-of-requires
+    mul-value
+    element-copy-out-value
+    element-copy-out-key
+    close-elements-requires
+    close-criteria-requires
+    sub-t
+    element-write-t-9
+    returns-5)

@@ -1,0 +1,110 @@
+// What an accepted call does to one task or one region.
+use rules::Call;
+use rules::Task;
+use tasks::met_by;
+ghost use mathlib.Core.Path.{_≡_};
+ghost use mathlib.Core.Bool.{cond};
+ghost use Prim.Native.Nat.{_+_, _%_, _<_};
+ghost use lib.Dec.{eqb};
+ghost use Rattle.rules.specs.Tasks.{woken, signalled, waited, asCleared};
+ghost use Rattle.rules.specs.Regions.{exited};
+ghost use Rattle.calls.specs.Effects.{target, taskAfter, holderAfter};
+
+// Which task the call changes: the one that START, STOP and SIGNAL name, else the caller.
+pub(crate) fn target_of(k: Call) -> u32
+    ensures { λ r. ⌜ r ≡ target k ⌝ }
+{
+    let operation = k.operation;
+    if operation < 2 {
+        return k.a;
+    }
+    if operation == 3 {
+        return k.b;
+    }
+    k.caller as u32
+}
+
+// Event e of a 16-bit list; e is taken modulo 16, so that the shift has a meaning for every number.
+fn signalled_by(e: u32, r: Task) -> Task
+    ensures { λ r1. ⌜ r1 ≡ signalled (e % 16) r ⌝ }
+{
+    let one: u16 = 1;
+    let arrived = r.arrived | (one << (e % 16));
+    let wakes = (r.state == 2) & met_by(r.operator, r.list, arrived);
+    if wakes {
+        return Task {
+            state: 1,
+            arrived: arrived, // waking doesn't clear events
+            list: 0,
+            operator: 0,
+        };
+    }
+    Task {
+        state: r.state,
+        arrived: arrived,
+        list: r.list,
+        operator: r.operator,
+    }
+}
+
+fn waited_by(list: u16, operator: u8, r: Task) -> Task
+    ensures { λ r1. ⌜ r1 ≡ waited list operator r ⌝ }
+{
+    if met_by(operator, list, r.arrived) {
+        return r;
+    }
+    Task {
+        state: 2,
+        arrived: r.arrived,
+        list: list,
+        operator: operator,
+    }
+}
+
+fn cleared_by(list: u16, r: Task) -> Task
+    ensures { λ r1. ⌜ r1 ≡ asCleared list r ⌝ }
+{
+    Task {
+        state: r.state,
+        arrived: r.arrived - (r.arrived & list),
+        list: r.list,
+        operator: r.operator,
+    }
+}
+
+// The task after the call.
+pub(crate) fn task_after(k: Call, r: Task) -> Task
+    ensures { λ r1. ⌜ r1 ≡ taskAfter k r ⌝ }
+{
+    let list = (k.a % 65536) as u16;
+    let operation = k.operation;
+    match operation {
+        0 => Task {
+            state: 1,
+            arrived: 0,
+            list: 0,
+            operator: 0,
+        },
+        3 => signalled_by(k.a, r),
+        4 => waited_by(list, (k.b % 256) as u8, r),
+        5 => cleared_by(list, r),
+        _ => Task {
+            state: 0,
+            arrived: 0,
+            list: 0,
+            operator: 0,
+        },
+    }
+}
+
+// The region's entry after ENTER or EXIT.
+pub(crate) fn holder_after(k: Call, h: u8) -> u8
+    requires { ⌜ k .caller < 255 ⌝ }
+    ensures { λ r. ⌜ r ≡ holderAfter k h ⌝ }
+{
+    let mine = k.caller + 1;
+    if k.operation == 6 {
+        return mine;
+    }
+    if h == mine { 0 } else { h }
+}

@@ -1,0 +1,140 @@
+// One call: refused with the first reason that applies, or done and the elected task found afresh.
+mod effect;
+
+use effect::holder_after;
+use effect::target_of;
+use effect::task_after;
+use queues::close_criteria;
+use queues::close_elements;
+use queues::place_of;
+use refusals::pick;
+use refusals::refusal_of;
+use refusals::reported_by;
+use rules::Answer;
+use rules::Call;
+use rules::Done;
+use rules::Table;
+use rules::Task;
+use tasks::elected_by;
+use tasks::held_by;
+use tasks::met_by;
+ghost use mathlib.Core.Path.{_≡_};
+ghost use Rattle.rules.specs.Step.{step};
+
+// The table stays in this one function from the first look to the last store, since each pass of it to another function would copy it.
+pub fn call(mut t: Table, k: Call) -> Done
+    ensures { λ r. ⌜ r ≡ step t k ⌝ }
+{
+    let status = refusal_of(
+        t.tasks,
+        t.regions,
+        t.queues,
+        t.elected,
+        &t.priority,
+        &t.state,
+        &t.arrived,
+        &t.list,
+        &t.operator,
+        &t.holder,
+        &t.bound,
+        &t.length,
+        &t.element,
+        &t.criterion,
+        k,
+    );
+    if status != 0 {
+        let who = reported_by(status, t.elected);
+        let no = Answer {
+            status: status,
+            value: 0,
+            key: 0,
+            elected: who,
+        };
+        return Done {
+            table: t,
+            answer: no,
+        };
+    }
+    let operation = k.operation;
+    if operation < 6 {
+        let i = target_of(k) as usize;
+        let r = Task {
+            state: t.state[i],
+            arrived: t.arrived[i],
+            list: t.list[i],
+            operator: t.operator[i],
+        };
+        let met = met_by((k.b % 256) as u8, (k.a % 65536) as u16, r.arrived);
+        let after = task_after(k, r);
+        t.state[i] = after.state;
+        t.arrived[i] = after.arrived;
+        t.list[i] = after.list;
+        t.operator[i] = after.operator;
+        let v = held_by(&t.holder);
+        let next = elected_by(v, &t.state, &t.priority);
+        t.elected = next;
+        let waits = pick((operation == 4) & !met, 1, 0);
+        let yes = Answer {
+            status: waits,
+            value: 0,
+            key: 0,
+            elected: next,
+        };
+        return Done {
+            table: t,
+            answer: yes,
+        };
+    }
+    let at = k.a as usize;
+    if operation < 8 {
+        t.holder[at] = holder_after(k, t.holder[at]);
+        let v = held_by(&t.holder);
+        let who = elected_by(v, &t.state, &t.priority);
+        t.elected = who;
+        let yes = Answer {
+            status: 0,
+            value: 0,
+            key: 0,
+            elected: who,
+        };
+        return Done {
+            table: t,
+            answer: yes,
+        };
+    }
+    let n = t.length[at];
+    let from = at * 64;
+    let end = from + (n as usize);
+    let who = t.elected;
+    if operation == 8 {
+        t.element[end] = k.b;
+        t.criterion[end] = (k.c % 256) as u8;
+        t.length[at] = n + 1;
+        let yes = Answer {
+            status: 0,
+            value: 0,
+            key: 0,
+            elected: who,
+        };
+        return Done {
+            table: t,
+            answer: yes,
+        };
+    }
+    let place = place_of(&t.criterion, from, end, k.c);
+    let value = t.element[place];
+    let key = t.criterion[place];
+    close_elements(&mut t.element, place, end);
+    close_criteria(&mut t.criterion, place, end);
+    t.length[at] = n - 1;
+    let yes = Answer {
+        status: 0,
+        value: value,
+        key: key,
+        elected: who,
+    };
+    Done {
+        table: t,
+        answer: yes,
+    }
+}

@@ -1,7 +1,0 @@
--- Laws that the proofs of this crate's functions cite.
-pub mod Woken
-pub mod Accepted
-pub mod Done
-pub mod Fills
-pub mod Configured
-pub mod Replied
