@@ -1,2 +1,3 @@
 -- The definitions that this crate's inner contracts cite beside those of the rules.
+pub mod Answers
 pub mod Effects

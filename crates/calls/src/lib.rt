@@ -1,6 +1,8 @@
 // One call: refused with the first reason that applies, or done and the elected task found afresh.
+mod answer;
 mod effect;
 
+use answer::answered;
 use effect::holder_after;
 use effect::target_of;
 use effect::task_after;
@@ -10,7 +12,6 @@ use queues::place_of;
 use refusals::pick;
 use refusals::refusal_of;
 use refusals::reported_by;
-use rules::Answer;
 use rules::Call;
 use rules::Done;
 use rules::Table;
@@ -21,7 +22,8 @@ use tasks::met_by;
 ghost use mathlib.Core.Path.{_≡_};
 ghost use Rattle.rules.specs.Step.{step};
 
-// The table stays in this one function from the first look to the last store, since each pass of it to another function would copy it.
+// The table stays in this one function from the first look to the last store, since each pass of it to another function may copy it.
+// Only `answered`, which is compiled into this function, takes it.
 pub fn call(mut t: Table, k: Call) -> Done
     ensures { λ r. ⌜ r ≡ step t k ⌝ }
 {
@@ -44,16 +46,7 @@ pub fn call(mut t: Table, k: Call) -> Done
     );
     if status != 0 {
         let who = reported_by(status, t.elected);
-        let no = Answer {
-            status: status,
-            value: 0,
-            key: 0,
-            elected: who,
-        };
-        return Done {
-            table: t,
-            answer: no,
-        };
+        return answered(t, status, 0, 0, who);
     }
     let operation = k.operation;
     if operation < 6 {
@@ -74,16 +67,7 @@ pub fn call(mut t: Table, k: Call) -> Done
         let next = elected_by(v, &t.state, &t.priority);
         t.elected = next;
         let waits = pick((operation == 4) & !met, 1, 0);
-        let yes = Answer {
-            status: waits,
-            value: 0,
-            key: 0,
-            elected: next,
-        };
-        return Done {
-            table: t,
-            answer: yes,
-        };
+        return answered(t, waits, 0, 0, next);
     }
     let at = k.a as usize;
     if operation < 8 {
@@ -91,16 +75,7 @@ pub fn call(mut t: Table, k: Call) -> Done
         let v = held_by(&t.holder);
         let who = elected_by(v, &t.state, &t.priority);
         t.elected = who;
-        let yes = Answer {
-            status: 0,
-            value: 0,
-            key: 0,
-            elected: who,
-        };
-        return Done {
-            table: t,
-            answer: yes,
-        };
+        return answered(t, 0, 0, 0, who);
     }
     let n = t.length[at];
     let from = at * 64;
@@ -110,16 +85,7 @@ pub fn call(mut t: Table, k: Call) -> Done
         t.element[end] = k.b;
         t.criterion[end] = (k.c % 256) as u8;
         t.length[at] = n + 1;
-        let yes = Answer {
-            status: 0,
-            value: 0,
-            key: 0,
-            elected: who,
-        };
-        return Done {
-            table: t,
-            answer: yes,
-        };
+        return answered(t, 0, 0, 0, who);
     }
     let place = place_of(&t.criterion, from, end, k.c);
     let value = t.element[place];
@@ -127,14 +93,5 @@ pub fn call(mut t: Table, k: Call) -> Done
     close_elements(&mut t.element, place, end);
     close_criteria(&mut t.criterion, place, end);
     t.length[at] = n - 1;
-    let yes = Answer {
-        status: 0,
-        value: value,
-        key: key,
-        elected: who,
-    };
-    Done {
-        table: t,
-        answer: yes,
-    }
+    answered(t, 0, value, key, who)
 }

@@ -54,8 +54,11 @@ refusal-of-requires c κs = let l = long (c .before .before .before .before .bef
 reported-by-requires : tie.Need-reported-by-requires
 reported-by-requires c κs = search needs
 
+answered-requires : tie.Need-answered-requires
+answered-requires c κs = search needs
+
 returns : tie.Need-returns
-returns c = refused-done _ _ _ _ (c .before .before .refusal-of .ensures) (c .before .if1 .taken) (c .reported-by .ensures)
+returns c = c .answered .ensures ∙ refused-done _ _ _ _ (c .before .before .before .refusal-of .ensures) (c .before .before .if1 .taken) (c .before .reported-by .ensures)
 
 target-of-requires : tie.Need-target-of-requires
 target-of-requires c κs = search needs
@@ -63,14 +66,14 @@ target-of-requires c κs = search needs
 cast-i : tie.Need-cast-i
 cast-i c = search needs
 
-element-copy-out-t49 : tie.Need-element-copy-out-t49
-element-copy-out-t49 c = omega (arith, c .target-of .ensures, task-there (c .before .before) (c .before .if2 .taken))
+element-copy-out-t44 : tie.Need-element-copy-out-t44
+element-copy-out-t44 c = omega (arith, c .target-of .ensures, task-there (c .before .before) (c .before .if2 .taken))
 
-mul-t50 : tie.Need-mul-t50
-mul-t50 c = search needs
+mul-t45 : tie.Need-mul-t45
+mul-t45 c = search needs
 
-element-copy-out-t53 : tie.Need-element-copy-out-t53
-element-copy-out-t53 c = omega (arith, c .before .target-of .ensures, task-there (c .before .before .before) (c .before .before .if2 .taken))
+element-copy-out-t48 : tie.Need-element-copy-out-t48
+element-copy-out-t48 c = omega (arith, c .before .target-of .ensures, task-there (c .before .before .before) (c .before .before .if2 .taken))
 
 mul-met-by : tie.Need-mul-met-by
 mul-met-by c = search needs
@@ -120,8 +123,11 @@ elected-by-requires c κs = (rw length-set (long (c .before .before .before .bef
 pick-requires : tie.Need-pick-requires
 pick-requires c κs = search needs
 
+answered-requires-2 : tie.Need-answered-requires-2
+answered-requires-2 c κs = search needs
+
 returns-2 : tie.Need-returns-2
-returns-2 c = task-done _ _ (zero (c .before .before .before .before .before .before .before .before .before .before .before .before .before .before .before .before .before .before)) (c .before .before .before .before .before .before .before .before .before .before .before .before .before .before .before .before .before .if2 .taken) _ (c .before .before .before .before .before .before .before .before .before .before .before .before .before .before .before .before .target-of .ensures) _ _ _ _ _ (c .before .before .before .before .before .before .before .before .task-after .ensures) (c .before .before .before .before .before .before .before .before .before .met-by .ensures) (c .before .before .before .before .before .held-by .ensures) (c .before .elected-by .ensures) (c .pick .ensures)
+returns-2 c = c .answered2 .ensures ∙ task-done _ _ (zero (c .before .before .before .before .before .before .before .before .before .before .before .before .before .before .before .before .before .before .before)) (c .before .before .before .before .before .before .before .before .before .before .before .before .before .before .before .before .before .before .if2 .taken) _ (c .before .before .before .before .before .before .before .before .before .before .before .before .before .before .before .before .before .target-of .ensures) _ _ _ _ _ (c .before .before .before .before .before .before .before .before .before .task-after .ensures) (c .before .before .before .before .before .before .before .before .before .before .met-by .ensures) (c .before .before .before .before .before .before .held-by .ensures) (c .before .before .elected-by .ensures) (c .before .pick .ensures)
 
 cast-at : tie.Need-cast-at
 cast-at c = search needs
@@ -141,8 +147,11 @@ held-by-requires-2 c κs = rw length-set (long (c .before .before .before .befor
 elected-by-requires-2 : tie.Need-elected-by-requires-2
 elected-by-requires-2 c κs = (long (c .before .before .before .before .before .before .before .before .before .before .before .before .before .before .before .before .before .before .before .before .before .before .before .before) .state-long, long (c .before .before .before .before .before .before .before .before .before .before .before .before .before .before .before .before .before .before .before .before .before .before .before .before) .priority-long)
 
+answered-requires-3 : tie.Need-answered-requires-3
+answered-requires-3 c κs = search needs
+
 returns-3 : tie.Need-returns-3
-returns-3 c = region-done _ _ (zero (c .before .before .before .before .before .before .before .before .before .before .before .before)) (c .before .before .before .before .before .before .before .before .before .before .before .if2 .left) (c .before .before .before .before .before .before .before .before .before .if3 .taken) _ _ _ (c .before .before .before .before .before .before .before .holder-after .ensures) (c .before .before .before .before .held-by2 .ensures) (c .elected-by2 .ensures)
+returns-3 c = c .answered3 .ensures ∙ region-done _ _ (zero (c .before .before .before .before .before .before .before .before .before .before .before .before .before)) (c .before .before .before .before .before .before .before .before .before .before .before .before .if2 .left) (c .before .before .before .before .before .before .before .before .before .before .if3 .taken) _ _ _ (c .before .before .before .before .before .before .before .before .holder-after .ensures) (c .before .before .before .before .before .held-by2 .ensures) (c .before .elected-by2 .ensures)
 
 element-copy-out-n : tie.Need-element-copy-out-n
 element-copy-out-n c = queue-there (c .before .before .before) (c .if3 .left) .queue-small
@@ -174,8 +183,11 @@ add-t c = let f = queue-there (c .before .before .before .before .before .before
 element-write-t-8 : tie.Need-element-write-t-8
 element-write-t-8 c = queue-there (c .before .before .before .before .before .before) (c .before .before .before .if3 .left) .queue-small
 
+answered-requires-4 : tie.Need-answered-requires-4
+answered-requires-4 c κs = search needs
+
 returns-4 : tie.Need-returns-4
-returns-4 c = send-done _ _ (zero (c .before .before .before .before .before .before)) (c .before .if4 .taken)
+returns-4 c = c .answered4 .ensures ∙ send-done _ _ (zero (c .before .before .before .before .before .before .before)) (c .before .before .if4 .taken)
 
 place-of-requires : tie.Need-place-of-requires
 place-of-requires c κs = long (c .before .before .before .before .before .before .before .before .before .before .before .before .before .before .before .before .before .before .before .before) .criterion-long
@@ -201,8 +213,11 @@ sub-t c = retrieve-some _ _ (zero (c .before .before .before .before .before .be
 element-write-t-9 : tie.Need-element-write-t-9
 element-write-t-9 c = queue-there (c .before .before .before .before .before .before .before .before .before .before .before .before .before .before) (c .before .before .before .before .before .before .before .before .before .before .before .if3 .left) .queue-small
 
+answered-requires-5 : tie.Need-answered-requires-5
+answered-requires-5 c κs = search needs
+
 returns-5 : tie.Need-returns-5
-returns-5 c = retrieve-done _ _ (zero (c .before .before .before .before .before .before .before .before .before .before .before .before .before .before)) (is-retrieve (c .before .before .before .before .before .before .before .before .before .before .before .before .before .before) (c .before .before .before .before .before .before .before .before .before .before .before .if3 .left) (c .before .before .before .before .before .before .before .before .before .if4 .left)) _ (c .before .before .before .before .before .before .place-of .ensures) _ _ _ _ refl refl (c .before .before .close-elements .ensures) (c .close-criteria .ensures)
+returns-5 c = c .answered5 .ensures ∙ retrieve-done _ _ (zero (c .before .before .before .before .before .before .before .before .before .before .before .before .before .before .before)) (is-retrieve (c .before .before .before .before .before .before .before .before .before .before .before .before .before .before .before) (c .before .before .before .before .before .before .before .before .before .before .before .before .if3 .left) (c .before .before .before .before .before .before .before .before .before .before .if4 .left)) _ (c .before .before .before .before .before .before .before .place-of .ensures) _ _ _ _ refl refl (c .before .before .before .close-elements .ensures) (c .before .close-criteria .ensures)
 
 pub call-spec : {M : Type 1} → statement M
 call-spec =
@@ -210,12 +225,13 @@ call-spec =
     (tie.spec
     refusal-of-requires
     reported-by-requires
+    answered-requires
     returns
     target-of-requires
     cast-i
-    element-copy-out-t49
-    mul-t50
-    element-copy-out-t53
+    element-copy-out-t44
+    mul-t45
+    element-copy-out-t48
     mul-met-by
     element-copy-out-met-by
     element-copy-out-met-by-2
@@ -232,6 +248,7 @@ call-spec =
     held-by-requires
     elected-by-requires
     pick-requires
+    answered-requires-2
     returns-2
     cast-at
     element-copy-out-holder-after
@@ -239,6 +256,7 @@ call-spec =
     element-write-t-5
     held-by-requires-2
     elected-by-requires-2
+    answered-requires-3
     returns-3
     element-copy-out-n
     mul-from
@@ -250,6 +268,7 @@ call-spec =
     element-write-t-7
     add-t
     element-write-t-8
+    answered-requires-4
     returns-4
     place-of-requires
     mul-value
@@ -259,4 +278,5 @@ call-spec =
     close-criteria-requires
     sub-t
     element-write-t-9
+    answered-requires-5
     returns-5)
