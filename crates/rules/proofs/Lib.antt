@@ -6,10 +6,12 @@ pub mod Bits
 pub mod Events
 pub mod Tasks
 pub mod Election
+pub mod Regions
 pub mod Store
 pub mod Queues
 pub mod Retrieve
 pub mod Validity
 pub mod Refusals
 pub mod Effects
+pub mod Columns
 pub mod Rows

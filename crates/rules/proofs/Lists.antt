@@ -37,6 +37,12 @@ module _ {ℓ} {A : Type ℓ} (p : A → Bool) where
   every-at (x ∷ xs) zero d h k = every-head x xs h
   every-at (x ∷ xs) (suc i) d h k = every-at xs i d (every-tail x xs h) k
 
+  -- an entry of the list
+  pub every-in : (xs : List A) (i : ℕ) (d : A) → every p xs ≡ true → i < length xs → p (getD xs i d) ≡ true
+  every-in [] i d h k = absurd (omega arith)
+  every-in (x ∷ xs) zero d h k = every-head x xs h
+  every-in (x ∷ xs) (suc i) d h k = every-in xs i d (every-tail x xs h) (le-of-suc-le-suc k)
+
   pub every-append : (xs ys : List A) → every p xs ≡ true → every p ys ≡ true → every p (xs ++ ys) ≡ true
   every-append [] ys h k = k
   every-append (x ∷ xs) ys h k = every-cons x (xs ++ ys) (every-head x xs h) (every-append xs ys (every-tail x xs h) k)

@@ -1,4 +1,4 @@
--- Laws of a task row under signals: two signals change places, a signal stops nobody and lets nobody wait.
+-- Laws of one task under signals: two signals change places, a signal stops nobody and lets nobody wait.
 use Prim.Native.Nat.{ℕ}
 use mathlib.Core.Path.{_≡_, refl, sym, ap, _∙_}
 use mathlib.Core.Bool.{Bool, true, false, _&&_, false≢true}
@@ -58,7 +58,7 @@ pub signalled-ready : (e : ℕ) (r : Task) → isReady r ≡ true → isReady (s
 unfolding signalled woken
 signalled-ready e r h = simp (eqb-true (r .state) 1 h)
 
--- the event has arrived, and the priority is what it was
+-- the event has arrived
 pub signalled-arrived : (e : ℕ) (r : Task) → signalled e r .arrived ≡ arrive e (r .arrived)
 unfolding signalled woken
 signalled-arrived e r = go (isWaiting r && met (r .operator) (r .list) (arrive e (r .arrived))) refl

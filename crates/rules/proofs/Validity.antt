@@ -352,7 +352,7 @@ module _ (t : Table) (p : Parts t) where
   bound-fits q k = and-left _ _ (queue-fits q k)
 
   -- a queue below the count, and one past it
-  used : (q : ℕ) → q < t .queues → q < queueRoom → (boundInRange (boundOf t q) && leb (lengthOf t q) (boundOf t q)) ≡ true
+  pub used : (q : ℕ) → q < t .queues → q < queueRoom → (boundInRange (boundOf t q) && leb (lengthOf t q) (boundOf t q)) ≡ true
   unfolding boundFits
   used q l k = simp (lt-ltb q (t .queues) l) at (bound-fits q k)
 
@@ -361,7 +361,7 @@ module _ (t : Table) (p : Parts t) where
   unused q l k = simp (le-ltb q (t .queues) l) at (bound-fits q k)
 
   -- every entry is 0 or the occupied ones', which is a task's
-  held-fits : leb (held (t .holder)) (t .tasks) ≡ true
+  pub held-fits : leb (held (t .holder)) (t .tasks) ≡ true
   unfolding holderRight
   held-fits =
       ⊎-elim (λ z. let e = eqb-true (held (t .holder)) 0 z in le-leb (held (t .holder)) (t .tasks) (omega arith)) (λ w. and-left _ _ w)

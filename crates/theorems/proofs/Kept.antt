@@ -1,0 +1,175 @@
+-- A valid table stays valid whatever the call: the ten operations one by one, then the step.
+use Prim.Native.Nat.{ℕ, _-_, _<_}
+use mathlib.Core.Path.{_≡_, refl, sym, ap, _∙_, subst}
+use mathlib.Core.Logic.{_≢_}
+use mathlib.Core.Bool.{Bool, true, false, _&&_, true≢false}
+use mathlib.Core.List.{[], _∷_}
+use native.Mathlib.Omega.{arith}
+use lib.Dec.{eqb, ltb}
+use lib.ListN.{length}
+use borrow.Author.Tests.{eqb-true, eqb-false, eq-eqb, ne-eqb, ltb-true, ltb-false, leb-false, lt-ltb, le-leb, not-false}
+use Rattle.rules.specs.declared.Task.{Task}
+use Rattle.rules.specs.declared.Table.{Table}
+use Rattle.rules.specs.declared.Call.{Call}
+use Rattle.rules.specs.Numbers.{listEnd, eventEnd, criterionEnd, nobody, outside}
+use Rattle.rules.specs.Words.{isZero, byOperation}
+use Rattle.rules.specs.Tasks.{isReady, asStarted, asStopped, signalled, waited, asCleared}
+use Rattle.rules.specs.Regions.{held, entered, exited}
+use Rattle.rules.specs.Queues.{place}
+use Rattle.rules.specs.Election.{readyAt, priorityAt}
+use Rattle.rules.specs.Tables.{taskOf, boundOf, queueOf, changed, withElected, settled}
+use Rattle.rules.specs.Validity.{valid}
+use Rattle.rules.specs.Refusals.{notElected, absent, badKey, missing, wrongState, leaves, refusal}
+use Rattle.rules.specs.Effects.{nothing, operations, effect}
+use Rattle.rules.specs.Step.{step}
+use Rattle.rules.proofs.Bools.{or-left, or-right, not-intro}
+use Rattle.rules.proofs.Tasks.{signalled-ready}
+use Rattle.rules.proofs.Validity.{Parts, parts-of, valid-parts, row-right, elected-ready, elected-below}
+use Rattle.rules.proofs.Refusals.{Accepted, accepted-facts}
+use Rattle.rules.proofs.Effects.{each-effect}
+use Rattle.theorems.specs.Kept.{ValidKept, ValidAfter, RefusedSame}
+use Rattle.theorems.proofs.Rows.{Fits, started-fits, stopped-fits, waited-fits, cleared-fits, signalled-fits, below-room, keep-task}
+use Rattle.theorems.proofs.Regions.{holder-elected, enter-fits, exit-fits, keep-holders}
+use Rattle.theorems.proofs.Queues.{keep-send, keep-retrieve, queue-short}
+
+-- ---- who calls
+
+pub record Caller (t : Table) (who : ℕ) : Type 0 where
+  pub is : who ≡ t .elected
+  pub one : who ≢ nobody
+
+pub caller-of : (t : Table) (who : ℕ) → (eqb who outside && true) ≡ false → notElected (t .elected) who ≡ false → Caller t who
+caller-of t who b n = go (eqb who outside) (eqb who (t .elected)) refl refl
+  where
+    go : (o e : Bool) → eqb who outside ≡ o → eqb who (t .elected) ≡ e → Caller t who
+    go true e h k = absurd (true≢false (simp h at b))
+    go false true h k = record { is = eqb-true _ _ k; one = eqb-false _ _ h }
+    go false false h k = absurd (true≢false (simp (h, k) at n))
+
+-- the same call with another operation number
+abbrev pub numbered : ℕ → Call → Call
+numbered n c = record { caller = c .caller; operation = n; a = c .a; b = c .b; c = c .c }
+
+pub there : (count i : ℕ) → absent count i ≡ false → i < count
+there count i h = ltb-true i count (not-false (ltb i count) h)
+
+-- ---- the ten operations
+
+module _ (t : Table) (p : Parts t) where
+  fit : (i : ℕ) → i < t .tasks → Fits (priorityAt (t .priority) i) (taskOf t i)
+  fit i l = row-right t (p .tasks) i l (below-room t p i l)
+
+  caller-ready : (who : ℕ) → Caller t who → readyAt (t .state) who ≡ true
+  caller-ready who w = let n : t .elected ≢ nobody = rw (w .is) at (w .one) in rw (w .is) (elected-ready t p n)
+
+  pub caller-below : (who : ℕ) → Caller t who → who < t .tasks
+  caller-below who w = let n : t .elected ≢ nobody = rw (w .is) at (w .one) in rw (w .is) (elected-below t p n)
+
+  -- one task changed
+  keep-changed : (i : ℕ) (f : Task → Task) (l : i < t .tasks)
+      → ((r : Task) → Fits (priorityAt (t .priority) i) r → r .state ≡ taskOf t i .state → Fits (priorityAt (t .priority) i) (f r))
+      → (isZero (held (t .holder)) ≡ false → held (t .holder) - 1 ≡ i → readyAt (t .state) i ≡ true → isReady (f (taskOf t i)) ≡ true)
+      → valid (settled (changed i f t)) ≡ true
+  keep-changed i f l k h = valid-parts _ (keep-task t p i (f (taskOf t i)) l (k (taskOf t i) (fit i l) refl) h)
+
+  module _ (c : Call) where
+    abbrev Keeps : ℕ → Type 0
+    Keeps n = Accepted t (numbered n c) → valid (settled (byOperation nothing n operations t c .table)) ≡ true
+
+    start-keeps : Keeps 0
+    unfolding missing
+    start-keeps o =
+        let l = there (t .tasks) (c .a) (o .nothing-missing) in
+        keep-changed (c .a) asStarted l (λ r k s. started-fits r k) (λ e f g. refl)
+
+    stop-keeps : Keeps 1
+    unfolding missing leaves
+    stop-keeps o =
+        let l = there (t .tasks) (c .a) (o .nothing-missing) in
+        keep-changed (c .a) asStopped l (λ r k s. stopped-fits r k) not-itself
+      where
+        not-itself : {X : Type 0} → isZero (held (t .holder)) ≡ false → held (t .holder) - 1 ≡ c .a → readyAt (t .state) (c .a) ≡ true → X
+        not-itself e f g =
+            let w = caller-of t (c .caller) (o .barred) (o .not-elected) in
+            let same : c .a ≡ c .caller = sym f ∙ sym (holder-elected t p (not-intro _ e)) ∙ sym (w .is) in
+            absurd (true≢false (simp (eq-eqb (c .a) (c .caller) same, e) at (o .may-leave)))
+
+    -- the caller leaves, so no region is occupied
+    end-keeps : Keeps 2
+    unfolding leaves
+    end-keeps o =
+        let l = caller-below (c .caller) (caller-of t (c .caller) (o .barred) (o .not-elected)) in
+        keep-changed (c .caller) asStopped l (λ r k s. stopped-fits r k) (λ e f g. absurd (true≢false (simp e at (o .may-leave))))
+
+    signal-keeps : Keeps 3
+    unfolding missing wrongState
+    signal-keeps o =
+        let l = there (t .tasks) (c .b) (or-right (absent eventEnd (c .a)) _ (o .nothing-missing)) in
+        let e = there eventEnd (c .a) (or-left _ (absent (t .tasks) (c .b)) (o .nothing-missing)) in
+        keep-changed (c .b) (signalled (c .a)) l (λ r k s. signalled-fits (c .a) e _ r (rw s (o .right-state)) k) (λ e f g. signalled-ready (c .a) (taskOf t (c .b)) g)
+
+    wait-keeps : Keeps 4
+    unfolding missing leaves
+    wait-keeps o =
+        let l = caller-below (c .caller) (caller-of t (c .caller) (o .barred) (o .not-elected)) in
+        let some = or-left _ (ltb 65535 (c .a)) (o .nothing-missing) in
+        let le = ltb-false 65535 (c .a) (or-right (isZero (c .a)) _ (o .nothing-missing)) in
+        let right = le-leb (c .b) 1 (ltb-false 1 (c .b) (o .operator-fits)) in
+        keep-changed (c .caller) (waited (c .a) (c .b)) l (λ r k s. waited-fits r k (c .a) (c .b) some (lt-ltb (c .a) listEnd (omega arith)) right)
+        (λ e f g. absurd (true≢false (simp e at (o .may-leave))))
+
+    clear-keeps : Keeps 5
+    clear-keeps o =
+        let w = caller-of t (c .caller) (o .barred) (o .not-elected) in
+        let l = caller-below (c .caller) w in
+        keep-changed (c .caller) (asCleared (c .a)) l (λ r k s. cleared-fits r k (c .a) (rw s (caller-ready (c .caller) w))) (λ e f g. g)
+
+    enter-keeps : Keeps 6
+    unfolding missing
+    enter-keeps o =
+        let w = caller-of t (c .caller) (o .barred) (o .not-elected) in
+        let l = there (t .regions) (c .a) (o .nothing-missing) in
+        valid-parts _ (keep-holders t p (c .caller) (w .is) (w .one) (c .a) (entered (c .caller)) l (λ h g. enter-fits (t .regions) (c .a) (c .caller) h l))
+
+    exit-keeps : Keeps 7
+    unfolding missing
+    exit-keeps o =
+        let w = caller-of t (c .caller) (o .barred) (o .not-elected) in
+        let l = there (t .regions) (c .a) (o .nothing-missing) in
+        valid-parts _ (keep-holders t p (c .caller) (w .is) (w .one) (c .a) (exited (c .caller)) l (exit-fits (t .regions) (c .a) (c .caller)))
+
+    send-keeps : Keeps 8
+    unfolding missing
+    send-keeps o =
+        let l = there (t .queues) (c .a) (or-left _ (absent criterionEnd (c .c)) (o .nothing-missing)) in
+        let small = there criterionEnd (c .c) (or-right (absent (t .queues) (c .a)) _ (o .nothing-missing)) in
+        valid-parts _ (keep-send t p (c .a) l (c .b) (c .c) (leb-false (boundOf t (c .a)) (length (queueOf t (c .a))) (o .not-full)) (lt-ltb (c .c) criterionEnd small))
+
+    retrieve-keeps : Keeps 9
+    unfolding missing
+    retrieve-keeps o =
+        let l = there (t .queues) (c .a) (or-left _ (badKey (c .c)) (o .nothing-missing)) in
+        valid-parts _ (keep-retrieve t p (c .a) l (place (c .c) (queueOf t (c .a))) (queue-short t p (c .a) l))
+
+    effect-keeps : Accepted t c → valid t ≡ true → valid (settled (effect t c .table)) ≡ true
+    effect-keeps o v =
+        each-effect t c (λ n e. Accepted t (numbered n c) → valid (settled (e .table)) ≡ true)
+        (start-keeps, (stop-keeps, (end-keeps, (signal-keeps, (wait-keeps, (clear-keeps, (enter-keeps, (exit-keeps, (send-keeps, (retrieve-keeps, tt))))))))))
+        (λ n a. subst (λ u. valid u ≡ true) (ap (λ e. withElected e t) (p .elected)) v)
+        o
+
+pub valid-kept : ValidKept
+unfolding step
+valid-kept t c v = go (isZero (refusal t c)) refl
+  where
+    go : (b : Bool) → isZero (refusal t c) ≡ b → valid (step t c .table) ≡ true
+    go true z = rw z (effect-keeps t (parts-of t v) c (accepted-facts t c (eqb-true _ 0 z)) v)
+    go false z = rw z v
+
+pub valid-after : ValidAfter
+valid-after t [] v = v
+valid-after t (c ∷ cs) v = valid-after (step t c .table) cs (valid-kept t c v)
+
+pub refused-same : RefusedSame
+unfolding step
+refused-same t c n = rw (ne-eqb (refusal t c) 0 n)

@@ -1,0 +1,14 @@
+-- The proofs of what `specs/` states.
+pub mod Rows
+pub mod Regions
+pub mod Queues
+pub mod Kept
+pub mod Fresh
+pub mod Signals
+pub mod Split
+pub mod Order
+pub mod Damaged
+pub mod Refused
+pub mod Running
+pub mod Lasting
+pub mod Examples

@@ -1,0 +1,91 @@
+-- Demand 3: a run is two runs side by side, the tasks after the signals and the rest after the calls; only the first needs the permutation.
+use Prim.Native.Nat.{_≤_}
+use mathlib.Core.Path.{_≡_, refl, sym, ap, ap₂, _∙_, subst, fun-ext}
+use mathlib.Core.Bool.{Bool, true, false}
+use mathlib.Core.List.{List, [], _∷_, map, List·Permᴰ}
+use Rattle.rules.specs.declared.Table.{Table}
+use Rattle.rules.specs.declared.Call.{Call}
+use Rattle.rules.specs.Numbers.{taskRoom}
+use Rattle.rules.specs.Words.{isZero}
+use Rattle.rules.specs.Validity.{shaped, valid}
+use Rattle.rules.proofs.Validity.{parts-of, counts-fit}
+use Rattle.rules.proofs.Effects.{frame-kept}
+use Rattle.theorems.specs.Happenings.{Happening, outside, own, signalCall, run, calls, signals, Reply, callReplies, statusFirst, signalStatuses, InTurn, Free, Agree, Demand3}
+use Rattle.theorems.proofs.Kept.{valid-kept}
+use Rattle.theorems.proofs.Signals.{signalStatus, signalTable, signal-shaped, status-same, afterSignals, signals-permuted}
+use Rattle.theorems.proofs.Split.{mixed, valid-mixed, step-signal, restRefusal, callTable, callReply, step-call}
+
+abbrev afterCalls : Table → List Call → Table
+afterCalls t [] = t
+afterCalls t (c ∷ cs) = afterCalls (callTable t c) cs
+
+abbrev repliesOf : Table → List Call → List Reply
+repliesOf t [] = []
+repliesOf t (c ∷ cs) = callReply t c ∷ repliesOf (callTable t c) cs
+
+-- no call changes how many tasks there are
+count-kept : (t : Table) (c : Call) → callTable t c .tasks ≡ t .tasks
+unfolding callTable
+count-kept t c = go (isZero (restRefusal t c)) refl
+  where
+    go : (b : Bool) → isZero (restRefusal t c) ≡ b → callTable t c .tasks ≡ t .tasks
+    go true z = rw z (ap (λ f. f .tasks) (frame-kept t c))
+    go false z = rw z
+
+abbrev Apart : Table → Table → List Happening → Type 0
+Apart k t xs =
+    (run (mixed k t) xs ≡ mixed (afterSignals (t .tasks) k (signals xs)) (afterCalls t (calls xs)))
+    × (callReplies (mixed k t) xs ≡ repliesOf t (calls xs))
+    × (signalStatuses (mixed k t) xs ≡ map (signalStatus (t .tasks) k) (signals xs))
+
+few : (k t : Table) → valid (mixed k t) ≡ true → t .tasks ≤ taskRoom
+few k t v = counts-fit _ _ _ (parts-of (mixed k t) v .counts) .0
+
+apart : (xs : List Happening) (k t : Table) → shaped k ≡ true → valid (mixed k t) ≡ true → Free (calls xs) → InTurn (mixed k t) xs → Apart k t xs
+apart [] k t sh v f i = (refl, refl, refl)
+apart (outside s ∷ xs) k t sh v f i =
+    let n = t .tasks in
+    let e = step-signal k t s v in
+    let ih =
+    apart xs (signalTable n k s) t (signal-shaped n (few k t v) k sh s)
+    (subst (λ u. valid u ≡ true) (e .0) (valid-kept (mixed k t) (signalCall s) v))
+    f
+    (subst (λ u. InTurn u xs) (e .0) i) in (
+      ap (λ u. run u xs) (e .0) ∙ ih .0,
+      ap (λ u. callReplies u xs) (e .0) ∙ ih .1,
+      ap₂ (λ x l. x ∷ l) (e .1)
+          (ap (λ u. signalStatuses u xs) (e .0) ∙ ih .2 ∙ ap (λ g. map g (signals xs)) (fun-ext (status-same n (few k t v) k sh s))),
+    )
+apart (own c ∷ xs) k t sh v f i =
+    let e = step-call k t c (f .0) v (i .0) in
+    let same = count-kept t c in
+    let ih =
+    apart xs k (callTable t c) sh
+    (subst (λ u. valid u ≡ true) (e .0) (valid-kept (mixed k t) c v))
+    (f .1)
+    (subst (λ u. InTurn u xs) (e .0) (i .1)) in (
+      ap (λ u. run u xs) (e .0) ∙ ih .0 ∙ ap (λ n. mixed (afterSignals n k (signals xs)) (afterCalls (callTable t c) (calls xs))) same,
+      ap₂ (λ x l. x ∷ l) (e .1) (ap (λ u. callReplies u xs) (e .0) ∙ ih .1),
+      ap (λ u. signalStatuses u xs) (e .0) ∙ ih .2 ∙ ap (λ n. map (signalStatus n k) (signals xs)) same,
+    )
+
+agree : (k t : Table) (xs ys : List Happening) → shaped k ≡ true → Free (calls xs) → calls xs ≡ calls ys → List·Permᴰ (signals xs) (signals ys)
+    → valid (mixed k t) ≡ true → InTurn (mixed k t) xs → InTurn (mixed k t) ys → Agree (mixed k t) xs ys
+agree k t xs ys sh f c p v i j =
+    let n = t .tasks in
+    let x = apart xs k t sh v f i in
+    let y = apart ys k t sh v (subst Free c f) j in
+    let first : signalStatus n k ≡ statusFirst (mixed k t) = fun-ext (λ s. sym (step-signal k t s v .1)) in (
+      x .0 ∙ ap₂ mixed (signals-permuted n (few k t v) p k sh) (ap (afterCalls t) c) ∙ sym (y .0),
+      x .1 ∙ ap (repliesOf t) c ∙ sym (y .1),
+      x .2 ∙ ap (λ g. map g (signals xs)) first,
+      y .2 ∙ ap (λ g. map g (signals ys)) first,
+    )
+
+pub demand3 : Demand3
+demand3 t xs ys v f c p i j =
+    subst (λ u. valid u ≡ true → InTurn u xs → InTurn u ys → Agree u xs ys) (sym (valid-mixed t v))
+    (agree t t xs ys (parts-of t v .shape) f c p)
+    v
+    i
+    j

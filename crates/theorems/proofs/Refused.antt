@@ -1,0 +1,63 @@
+-- One answer and no second; refused exactly when a listed reason holds, with the first such number.
+use Prim.Native.Nat.{ℕ}
+use mathlib.Core.Path.{_≡_, refl, sym, ap, _∙_}
+use mathlib.Core.Logic.{_≢_}
+use mathlib.Core.Bool.{Bool, true, false}
+use mathlib.Core.List.{List, [], _∷_, _++_}
+use borrow.Author.Tests.{ne-eqb}
+use Rattle.rules.specs.Words.{Reason, first}
+use Rattle.rules.specs.Refusals.{reasons, refusal}
+use Rattle.rules.specs.Step.{step}
+use Rattle.rules.proofs.Refusals.{None, accepted-none}
+use Rattle.theorems.specs.Refused.{One, OneAnswer, FirstIs, RefusedExactly, AcceptedExactly, RefusedDone}
+
+one {ℓ} : {A : Type ℓ} (x : A) → One {A = A} (λ d. d ≡ x)
+one x = (x, refl, λ e h. h)
+
+pub one-answer : OneAnswer
+one-answer =
+    record {
+      call = λ t c. one _;
+      fresh-table = λ tasks regions queues priorities bounds. one _;
+      arrived = λ t caller list operator. one _;
+      empty = λ t queue. one _;
+      full = λ t queue. one _;
+      priority = λ t task. one _;
+      state = λ t task. one _;
+    }
+
+first-is : (rs : List Reason) (status : ℕ) → status ≢ 0 → first rs ≡ status → FirstIs rs status
+first-is [] status n h = absurd (n (sym h))
+first-is (r ∷ rs) status n h = go (r .applies) refl (first-is rs status n)
+  where
+    go : (b : Bool) → r .applies ≡ b → (first rs ≡ status → FirstIs rs status) → FirstIs (r ∷ rs) status
+    go true e ih = record { before = []; reason = r; after = rs; split = refl; none = tt; applies = e; says = rw e at h }
+    go false e ih =
+        let f = ih (rw e at h) in
+        record {
+          before = r ∷ f .before;
+          reason = f .reason;
+          after = f .after;
+          split = ap (λ l. r ∷ l) (f .split);
+          none = (e, f .none);
+          applies = f .applies;
+          says = f .says;
+        }
+
+passed : (rs ss : List Reason) → None rs → first (rs ++ ss) ≡ first ss
+passed [] ss n = refl
+passed (r ∷ rs) ss n = rw (n .0) (passed rs ss (n .1))
+
+is-first : (rs : List Reason) (status : ℕ) → FirstIs rs status → first rs ≡ status
+is-first rs status f = ap first (f .split) ∙ passed (f .before) _ (f .none) ∙ rw (f .applies) (f .says)
+
+pub refused-exactly : RefusedExactly
+unfolding refusal
+refused-exactly t c status n = (first-is (reasons t c) status n, is-first (reasons t c) status)
+
+pub accepted-exactly : AcceptedExactly
+accepted-exactly = accepted-none
+
+pub refused-done : RefusedDone
+unfolding step
+refused-done t c n = rw (ne-eqb (refusal t c) 0 n)

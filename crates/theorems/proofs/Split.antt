@@ -1,0 +1,129 @@
+-- A table is its tasks and the rest, and the elected task is a function of both: a signal changes the tasks, a call that passes SIGNAL the rest.
+use Prim.Native.Nat.{ℕ}
+use mathlib.Core.Path.{_≡_, refl, ap}
+use mathlib.Core.Bool.{Bool, true, false, cond, _&&_, and-false, and-true}
+use mathlib.Core.List.{List, [], _∷_}
+use lib.Dec.{eqb, leb}
+use lib.ListN.{length}
+use borrow.Author.Tests.{eq-eqb}
+use Rattle.rules.specs.declared.Table.{Table}
+use Rattle.rules.specs.declared.Call.{Call}
+use Rattle.rules.specs.Numbers.{outside, SEND, RETRIEVE}
+use Rattle.rules.specs.Words.{isZero, Reason, when, first}
+use Rattle.rules.specs.Tasks.{isStopped}
+use Rattle.rules.specs.Queues.{noneFits}
+use Rattle.rules.specs.Tables.{taskOf, boundOf, queueOf, withElected, settled}
+use Rattle.rules.specs.Validity.{valid}
+use Rattle.rules.specs.Refusals.{missing, wrongState, leaves, reasons, refusal}
+use Rattle.rules.specs.Effects.{effect}
+use Rattle.rules.specs.Step.{step}
+use Rattle.rules.proofs.Validity.{parts-of}
+use Rattle.exclusion.specs.Marks.{passesSignal}
+use Rattle.exclusion.proofs.Table.{passes-cases}
+use Rattle.theorems.specs.Happenings.{Signal, signalCall, Reply, reply}
+use Rattle.theorems.proofs.Kept.{numbered}
+use Rattle.theorems.proofs.Signals.{bad, signalStatus, signalTable}
+
+-- the tasks of one table and the rest of another, with the elected task that they give
+abbrev pub mixed : Table → Table → Table
+mixed tasks rest =
+    settled (record {
+      tasks = rest .tasks;
+      regions = rest .regions;
+      queues = rest .queues;
+      elected = rest .elected;
+      priority = rest .priority;
+      state = tasks .state;
+      arrived = tasks .arrived;
+      list = tasks .list;
+      operator = tasks .operator;
+      holder = rest .holder;
+      bound = rest .bound;
+      length = rest .length;
+      element = rest .element;
+      criterion = rest .criterion;
+    })
+
+pub valid-mixed : (t : Table) → valid t ≡ true → t ≡ mixed t t
+valid-mixed t v = ap (λ e. withElected e t) (parts-of t v .elected)
+
+-- ---- a signal
+
+module _ (k t : Table) (s : Signal) (v : valid (mixed k t) ≡ true) where
+  abbrev Signalled : Type 0
+  Signalled =
+      (step (mixed k t) (signalCall s) .table ≡ mixed (signalTable (t .tasks) k s) t)
+      × (step (mixed k t) (signalCall s) .answer .status ≡ signalStatus (t .tasks) k s)
+
+  pub step-signal : Signalled
+  unfolding step refusal reasons missing wrongState leaves effect signalTable signalStatus bad
+  step-signal = go (bad (t .tasks) s) (isStopped (taskOf k (s .task))) refl refl
+    where
+      go : (b c : Bool) → bad (t .tasks) s ≡ b → isStopped (taskOf k (s .task)) ≡ c → Signalled
+      go true c h e = (simp (v, h), simp (v, h))
+      go false true h e = (simp (v, h, e), simp (v, h, e))
+      go false false h e = (simp (v, h, e), simp (v, h, e))
+
+-- ---- a call that passes SIGNAL
+
+-- why it is refused: only what the rest says
+unfoldable pub restReasons : Table → Call → List Reason
+restReasons t c =
+    when 13 (eqb (c .caller) outside)
+    ∷ when 14 (missing (t .tasks) (t .regions) (t .queues) c)
+    ∷ when 17 (eqb (c .operation) SEND && leb (boundOf t (c .a)) (length (queueOf t (c .a))))
+    ∷ when 18 (eqb (c .operation) RETRIEVE && noneFits (c .c) (queueOf t (c .a)))
+    ∷ []
+
+unfoldable pub restRefusal : Table → Call → ℕ
+restRefusal t c = first (restReasons t c)
+
+unfoldable pub callTable : Table → Call → Table
+callTable t c = cond (isZero (restRefusal t c)) (effect t c .table) t
+
+unfoldable pub callReply : Table → Call → Reply
+callReply t c =
+    cond (isZero (restRefusal t c))
+    (record { status = effect t c .status; value = effect t c .given .element; key = effect t c .given .criterion })
+    (record { status = restRefusal t c; value = 0; key = 0 })
+
+module _ (k t : Table) (c : Call) (free : passesSignal (c .operation) ≡ true) where
+  rest-refusal : valid (mixed k t) ≡ true → c .caller ≡ mixed k t .elected → refusal (mixed k t) c ≡ restRefusal t c
+  unfolding refusal reasons missing wrongState leaves restRefusal restReasons queueOf
+  rest-refusal v is =
+      let e = eq-eqb (c .caller) (mixed k t .elected) is in
+      passes-cases (λ n. refusal (mixed k t) (numbered n c) ≡ restRefusal t (numbered n c))
+      (simp (v, e, and-false, and-true))
+      (simp (v, e, and-false, and-true))
+      (simp (v, e, and-false, and-true))
+      (simp (v, e, and-false, and-true))
+      (c .operation)
+      free
+
+  abbrev RestOnly : Call → Type 0
+  RestOnly d =
+      (settled (effect (mixed k t) d .table) ≡ mixed k (effect t d .table))
+      × (effect (mixed k t) d .status ≡ effect t d .status)
+      × (effect (mixed k t) d .given ≡ effect t d .given)
+
+  rest-only : RestOnly c
+  unfolding effect queueOf
+  rest-only =
+      passes-cases (λ n. RestOnly (numbered n c)) (refl, refl, refl) (refl, refl, refl) (refl, refl, refl) (refl, refl, refl) (c .operation) free
+
+  abbrev Called : Type 0
+  Called = (step (mixed k t) c .table ≡ mixed k (callTable t c)) × (reply (step (mixed k t) c .answer) ≡ callReply t c)
+
+  pub step-call : valid (mixed k t) ≡ true → c .caller ≡ mixed k t .elected → Called
+  unfolding step callTable callReply
+  step-call v is = go (isZero (restRefusal t c)) refl
+    where
+      q : refusal (mixed k t) c ≡ restRefusal t c
+      q = rest-refusal v is
+
+      go : (b : Bool) → isZero (restRefusal t c) ≡ b → Called
+      go true z = (
+        simp (q, z) (rest-only .0),
+        simp (q, z) (λ i. record { status = rest-only .1 i; value = rest-only .2 i .element; key = rest-only .2 i .criterion }),
+      )
+      go false z = (simp (q, z), simp (q, z))

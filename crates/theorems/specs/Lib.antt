@@ -1,0 +1,7 @@
+-- What is shown of the rules, as statements that can be read without their proofs.
+pub mod Kept
+pub mod Happenings
+pub mod Refused
+pub mod Running
+pub mod Lasting
+pub mod Examples
