@@ -12,10 +12,10 @@ use borrow.Author.Tests.{eq-eqb, ne-eqb, ltb-true, ltb-false}
 use Rattle.rules.specs.declared.Table.{Table}
 use Rattle.rules.specs.declared.Call.{Call}
 use Rattle.rules.specs.Numbers.{CLEAR, ENTER, EXIT, SEND}
-use Rattle.rules.specs.Words.{byOperation}
+use Rattle.rules.specs.Words.{altered, byOperation}
 use Rattle.rules.specs.Regions.{entered, exited}
 use Rattle.rules.specs.Tables.{electionOf}
-use Rattle.rules.specs.Effects.{Effect, plain, nothing, operations, effect}
+use Rattle.rules.specs.Effects.{Effect, plain, nothing, exit, operations, effect}
 
 -- ---- by operation
 
@@ -136,3 +136,7 @@ exit-frees caller = rw (eq-eqb (suc caller) (suc caller) refl)
 
 pub exit-leaves : (caller h : ℕ) → h ≢ suc caller → exited caller h ≡ h
 exit-leaves caller h n = rw (ne-eqb h (suc caller) n)
+
+-- EXIT looks at the regions alone: in two tables whose regions agree, whatever their events are, it leaves regions that agree
+pub exit-by-regions : (t u : Table) (c : Call) → t .holder ≡ u .holder → exit t c .table .holder ≡ exit u c .table .holder
+exit-by-regions t u c p = ap (altered (c .a) (exited (c .caller))) p
