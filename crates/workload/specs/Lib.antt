@@ -1,0 +1,5 @@
+-- The definitions that this crate's contracts cite: the generated calls, a run of them, checks of a table, and counts.
+pub mod Draw
+pub mod Run
+pub mod Checks
+pub mod Counts

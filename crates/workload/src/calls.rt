@@ -1,0 +1,67 @@
+// Mixed calls from a fresh table.
+use crate::draw::call_of;
+use crate::draw::next_of;
+use crate::draw::seeded_by;
+use crate::draw::task_of;
+use executive::call;
+use executive::fresh;
+use rules::Answer;
+use rules::Table;
+ghost use mathlib.Core.Path.{_≡_};
+ghost use Rattle.workload.specs.Run.{first, noted, run};
+
+// 32 tasks, 16 regions and 8 queues of 64. A priority is a letter, A the most urgent, and two tasks share each.
+pub(crate) fn first_table() -> Table
+    ensures { λ r. ⌜ r ≡ first ⌝ }
+{
+    let priorities = b"FMDKBIPGNELCJAHOFMDKBIPGNELCJAHO";
+    let bounds = [64u8; 8];
+    let d = fresh(32, 16, 8, priorities, &bounds);
+    d.table
+}
+
+// The checksum after an answer: every part of every answer counts, and so does their order.
+pub(crate) fn noted_by(sum: u32, r: Answer) -> u32
+    ensures { λ s. ⌜ s ≡ noted sum r ⌝ }
+{
+    let part = (r.status as u64) * 65536 + (r.key as u64) * 256 + (r.elected as u64);
+    (((sum as u64) * 31 + (r.value as u64) + part) % 4294967291) as u32
+}
+
+// Where a run stands: the table, the number drawn for the next call, and the checksum.
+pub(crate) struct Run {
+    pub(crate) table: Table,
+    pub(crate) draw: u32,
+    pub(crate) sum: u32,
+}
+
+// `calls` generated calls from a fresh table.
+pub(crate) fn run_of(seed: u32, calls: u32) -> Run
+    ensures { λ r. ⌜ r ≡ run seed calls ⌝ }
+{
+    let mut t = first_table();
+    let mut x = seeded_by(seed);
+    let mut sum: u32 = 0;
+    for i in 0..calls {
+        let task = task_of(x) as usize;
+        let k = call_of(x, t.elected, t.state[task]);
+        let d = call(t, k);
+        t = d.table;
+        sum = noted_by(sum, d.answer);
+        x = next_of(x);
+    }
+    Run {
+        table: t,
+        draw: x,
+        sum: sum,
+    }
+}
+
+// Runs `calls` generated calls and returns the checksum of their answers.
+#[no_mangle]
+pub extern "C" fn tankwesho_mixed_calls(seed: u32, calls: u32) -> u64
+    ensures { λ r. ⌜ r ≡ run seed calls .sum ⌝ }
+{
+    let r = run_of(seed, calls);
+    r.sum as u64
+}
