@@ -1,0 +1,27 @@
+-- The tests are the definition's, in its order; a figure is at least 48, and a letter at least 65.
+use native.Mathlib.Omega.{arith}
+use Rattle.lines.specs.Digits.{digit}
+use Rattle.lines.proofs.Hexadecimal.{figure-from, letter-from}
+use Rattle.lines.proofs.digits.digit_of.Statement.{statement}
+use Rattle.lines.proofs.digits.digit_of.Tie as tie
+
+sub-result : tie.Need-sub-result
+sub-result c = figure-from _ (c .if1 .taken)
+
+returns : tie.Need-returns
+unfolding digit
+returns c = simp (c .if1 .taken)
+
+sub-result-2 : tie.Need-sub-result-2
+sub-result-2 c = omega (arith, letter-from (c .before .before .args .b) (c .if2 .taken))
+
+returns-2 : tie.Need-returns-2
+unfolding digit
+returns-2 c = simp (c .before .if1 .left, c .if2 .taken)
+
+returns-3 : tie.Need-returns-3
+unfolding digit
+returns-3 c = simp (c .before .if1 .left, c .if2 .left)
+
+pub digit-of-spec : {M : Type 1} → statement M
+digit-of-spec = tie.close (tie.spec sub-result returns sub-result-2 returns-2 returns-3)

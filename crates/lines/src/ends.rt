@@ -1,0 +1,57 @@
+// The line reader, over a slice and a place by value.
+ghost use mathlib.Core.Path.{_≡_};
+ghost use Prim.Native.Nat.{_+_, _≤_};
+ghost use lib.ListN.{length, drop};
+ghost use Rattle.lines.specs.Ends.{lineLength, lineAt};
+
+// What begins at a place.
+pub enum Line {
+    // A line of at most 128 bytes, start..end, and the place behind its line feed.
+    Whole {
+        start: usize,
+        end: usize,
+        next: usize,
+    },
+    // A longer line, and the place behind its line feed.
+    TooLong {
+        next: usize,
+    },
+    // Bytes without a line feed.
+    Unended,
+    // No byte at all.
+    Nothing,
+}
+
+// The place of the first line feed from `at` on, or the end.
+fn feed_from(s: &[u8], at: usize) -> usize
+    requires { ⌜ at ≤ length (now s) ⌝ }
+    ensures first { λ r. ⌜ r ≡ at + lineLength (drop at (now (s .entry))) ⌝ }
+    ensures within { λ r. ⌜ r ≤ length (now (s .entry)) ⌝ }
+{
+    for i in at..s.len() {
+        if s[i] == b'\n' {
+            return i;
+        }
+    }
+    s.len()
+}
+
+pub fn line_at(s: &[u8], at: usize) -> Line
+    ensures { λ r. ⌜ r ≡ lineAt (now (s .entry)) at ⌝ }
+{
+    if s.len() <= at {
+        return Line::Nothing;
+    }
+    let end = feed_from(s, at);
+    if end == s.len() {
+        return Line::Unended;
+    }
+    if 128 < end - at {
+        return Line::TooLong { next: end + 1 };
+    }
+    Line::Whole {
+        start: at,
+        end: end,
+        next: end + 1,
+    }
+}

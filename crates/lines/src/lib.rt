@@ -1,0 +1,14 @@
+// The bench's lines: where a line ends, hexadecimal both ways, the call that a line holds, and the answer line.
+mod answer;
+mod call;
+mod digits;
+mod ends;
+
+pub use answer::put_answer;
+pub use call::call_of;
+pub use digits::all_digits;
+pub use digits::byte_at;
+pub use digits::put_digits;
+pub use digits::word_at;
+pub use ends::Line;
+pub use ends::line_at;
