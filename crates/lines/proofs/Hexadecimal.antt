@@ -48,11 +48,9 @@ value-fits k xs h =
     let small = value-below 0 xs in
     omega arith
 
-pub figure-from : (b : ℕ) → isFigure b ≡ true → 48 ≤ b
-figure-from b h = leb-true 48 b (and-left (leb 48 b) (leb b 57) h)
-
-pub letter-from : (b : ℕ) → isLetter b ≡ true → 65 ≤ b
-letter-from b h = leb-true 65 b (and-left (leb 65 b) (leb b 70) h)
+-- what can be taken from the first character of a range can be taken from each
+pub at-least : (k first last b : ℕ) → (leb first b && leb b last) ≡ true → k ≤ first → k ≤ b
+at-least k first last b h g = let from = leb-true first b (and-left (leb first b) (leb b last) h) in omega arith
 
 -- ---- how many
 

@@ -1,10 +1,12 @@
 -- Laws of parts of a list: as they are read, and as they are written over.
-use Prim.Native.Nat.{ℕ, suc, _+_, _-_, _<_, _^_, _≤_}
+use Prim.Native.Nat.{ℕ, suc, _+_, _-_, _<_, _≤_}
 use mathlib.Core.Path.{_≡_, refl, sym, ap, _∙_}
 use mathlib.Core.List.{List, [], _∷_, _++_, append-assoc}
 use native.Mathlib.Omega.{arith}
 use lib.ListN.{length, take, drop, getD, set, drop-of-length-le, length-append, length-drop, length-take}
 use lib.Seq.{take-all, take-nil, take-at, drop-at, drop-cons, drop-drop, length-take-le, set-at}
+use mir.Syntax.{w8}
+use mir.Val.{Fits}
 use borrow.Author.Tests.{le-leb, lt-leb}
 use borrow.Rule.Slice.PartMut.{midOf, putMid}
 use Rattle.lines.specs.Digits.{value, digits}
@@ -35,8 +37,8 @@ module _ (at n : ℕ) (l : List ℕ) where
   unfolding field
   part-field r part e d = d ∙ ap (λ xs. value xs) e
 
-  pub part-fits : (r : ℕ) (part : List ℕ) → part ≡ take n (drop at l) → r ≡ value part → r < 16 ^ n
-  part-fits r part e d = let small = value-fits n part (part-within n part e (omega arith)) in omega arith
+  pub part-byte : (r : ℕ) (part : List ℕ) → part ≡ take n (drop at l) → r ≡ value part → n ≤ 2 → Fits w8 r
+  part-byte r part e d h = let small = value-fits 2 part (part-within 2 part e h) in omega arith
 
 -- ---- a list written from its start on: l has `front` for the first a bytes of `old`
 

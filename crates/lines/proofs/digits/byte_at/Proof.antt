@@ -1,6 +1,6 @@
 -- Two digits stand for less than 16 ^ 2, which is what a byte holds.
 use borrow.Author.Needs.{needs}
-use Rattle.lines.proofs.Parts.{part-within, part-field, part-fits}
+use Rattle.lines.proofs.Parts.{part-within, part-field, part-byte}
 use Rattle.lines.proofs.digits.byte_at.Statement.{statement}
 use Rattle.lines.proofs.digits.byte_at.Tie as tie
 
@@ -11,9 +11,7 @@ value-of-requires : tie.Need-value-of-requires
 value-of-requires c κs = search (part-within, needs)
 
 cast-result : tie.Need-cast-result
-cast-result c =
-    let given = c .before .before .before .args in
-    record { fits = part-fits (given .at) 2 (given .s .now) _ _ (c .before .part-of .ensures) (c .value-of .ensures) }
+cast-result c = search (part-byte, needs)
 
 returns : tie.Need-returns
 returns c = search (part-field, needs)

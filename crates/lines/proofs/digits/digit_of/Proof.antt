@@ -1,19 +1,19 @@
--- The tests are the definition's, in its order; a figure is at least 48, and a letter at least 65.
-use native.Mathlib.Omega.{arith}
+-- The tests are the definition's, in its order, and each leaves room for what is taken from the character.
+use borrow.Author.Needs.{needs}
 use Rattle.lines.specs.Digits.{digit}
-use Rattle.lines.proofs.Hexadecimal.{figure-from, letter-from}
+use Rattle.lines.proofs.Hexadecimal.{at-least}
 use Rattle.lines.proofs.digits.digit_of.Statement.{statement}
 use Rattle.lines.proofs.digits.digit_of.Tie as tie
 
 sub-result : tie.Need-sub-result
-sub-result c = figure-from _ (c .if1 .taken)
+sub-result c = search (at-least, needs)
 
 returns : tie.Need-returns
 unfolding digit
 returns c = simp (c .if1 .taken)
 
 sub-result-2 : tie.Need-sub-result-2
-sub-result-2 c = omega (arith, letter-from (c .before .before .args .b) (c .if2 .taken))
+sub-result-2 c = search (at-least, needs)
 
 returns-2 : tie.Need-returns-2
 unfolding digit
