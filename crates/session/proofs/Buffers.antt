@@ -1,0 +1,195 @@
+-- Laws of the lent buffers: a part moved to the front, what a piece leaves, and the answer at the end.
+use Prim.Native.Nat.{ℕ, zero, suc, _+_, _*_, _-_, _/_, _<_, _≤_, min}
+use mathlib.Core.Path.{_≡_, refl, sym, ap, _∙_}
+use mathlib.Core.Bool.{Bool, true, false}
+use mathlib.Core.List.{List, [], _∷_, _++_, append-assoc}
+use native.Mathlib.Omega.{arith}
+use native.Mathlib.Numerals.{add-one}
+use lib.Dec.{eqb, leb}
+use lib.ListN.{length, take, drop, getD, set, length-take, length-drop, length-append}
+use lib.Seq.{take-suc, take-all, take-take, take-add, drop-at, drop-cons, length-take-le, set-at, getD-append-add, getD-drop}
+use borrow.Author.Tests.{le-leb, lt-leb, leb-true, leb-false}
+use Rattle.rules.specs.declared.Answer.{Answer}
+use Rattle.lines.specs.Answers.{answerLine, placed}
+use Rattle.lines.proofs.Parts.{answer-length}
+use Rattle.session.specs.declared.Standing.{Standing}
+use Rattle.session.specs.declared.Fed.{Fed}
+use Rattle.session.specs.declared.Held.{Held}
+use Rattle.session.specs.Steps.{malformed}
+use Rattle.session.specs.Run.{onto, cut, stood, ending, kept}
+use Rattle.session.specs.Pieces.{fitting, taken, over, feedTold, pieceAnswers, pieceLeft, pieceTold, endingLength}
+
+-- ---- a part moved to the front
+
+module _ (from n i : ℕ) (l s : List ℕ) (e : s ≡ take i (drop from l) ++ drop i l) (fits : from + n ≤ length l) where
+  moved-long : i ≤ n → length (take i (drop from l)) ≡ i
+  moved-long h = length-take-le i (drop from l) (rw length-drop (omega arith))
+
+  pub front-again : i < n → set s i (getD s (from + i) 0) ≡ take (i + 1) (drop from l) ++ drop (i + 1) l
+  front-again h =
+      let long = moved-long (omega arith) in
+      let place : from + i ≡ length (take i (drop from l)) + from = rw long (omega arith) in
+      let same : i + from ≡ from + i = omega arith in
+      let read : getD s (from + i) 0 ≡ getD (drop from l) i 0 =
+      rw (e, place, getD-append-add (take i (drop from l)) (drop i l) from 0, getD-drop i l from 0, same) (sym (getD-drop from l i 0)) in
+      let inside : i < length (drop from l) = rw length-drop (omega arith) in
+      rw (read, e, drop-cons l i 0 (omega arith), set-at (take i (drop from l)) (getD l i 0) (drop (suc i) l) (getD (drop from l) i 0) i long, add-one, take-suc (drop from l) i 0 inside)
+      (sym (append-assoc (take i (drop from l)) (getD (drop from l) i 0 ∷ []) (drop (suc i) l)))
+
+  pub front-end : i ≤ n → n ≤ i → s ≡ over (take n (drop from l)) l
+  front-end h k = let same : i ≡ n = omega arith in rw (e, ← same, moved-long h)
+
+-- ---- what a piece leaves
+
+pub take-lesser : (end : ℕ) (l : List ℕ) → take (min end (length l) - 0) (drop 0 l) ≡ take end l
+take-lesser end l = go (leb end (length l)) refl
+  where
+    go : (b : Bool) → leb end (length l) ≡ b → take (min end (length l) - 0) l ≡ take end l
+    go true e = let same : min end (length l) - 0 ≡ end = omega (arith, leb-true end (length l) e) in rw same
+    go false e =
+        let over-end = leb-false end (length l) e in
+        let same : min end (length l) - 0 ≡ length l = omega arith in
+        rw (same, take-all (length l) l (omega arith), take-all end l (omega arith))
+
+-- the lines and what is left are as long as the bytes that they were cut from
+cut-fits : (bs : List ℕ) → taken (cut bs .lines) + length (cut bs .rest) ≡ length bs
+unfolding cut taken
+cut-fits [] = refl
+cut-fits (b ∷ bs) = go (eqb b 10) refl (cut-fits bs)
+  where
+    more : (lines : List (List ℕ)) (rest : List ℕ) → taken (onto b lines rest .lines) + length (onto b lines rest .rest) ≡ suc (taken lines + length rest)
+    more [] rest = omega arith
+    more (line ∷ lines) rest = omega arith
+
+    go : (x : Bool) → eqb b 10 ≡ x → taken (cut bs .lines) + length (cut bs .rest) ≡ length bs
+        → taken (cut (b ∷ bs) .lines) + length (cut (b ∷ bs) .rest) ≡ suc (length bs)
+    go true e ih = rw e (omega arith)
+    go false e ih = rw e (more (cut bs .lines) (cut bs .rest) ∙ ap suc ih)
+
+taken-take : (n : ℕ) (lines : List (List ℕ)) → taken (take n lines) ≤ taken lines
+unfolding taken
+taken-take zero lines = omega arith
+taken-take (suc n) [] = omega arith
+taken-take (suc n) (line ∷ lines) = let ih = taken-take n lines in omega arith
+
+pub taken-within : (room : ℕ) (input : List ℕ) → taken (fitting room input) ≤ length input
+unfolding fitting
+taken-within room input = let t = taken-take (room / 15) (cut input .lines) in let c = cut-fits input in omega arith
+
+drop-take : (from m : ℕ) (l : List ℕ) → from + m ≤ length l → drop from (take (from + m) l) ≡ take m (drop from l)
+drop-take from m l h = rw take-add (drop-at (take from l) (take m (drop from l)) from (length-take-le from l (omega arith)))
+
+pub kept-front : (from to : ℕ) (l : List ℕ) → from ≤ to → to ≤ length l → take (min (to - from) 129) (drop from l) ≡ kept (drop from (take to l))
+unfolding kept
+kept-front from to l h k =
+    let whole : to ≡ from + (to - from) = omega arith in
+    let part : drop from (take to l) ≡ take (to - from) (drop from l) = ap (λ n. drop from (take n l)) whole ∙ drop-take from (to - from) l (omega arith) in
+    rw part (go (leb (to - from) 129) refl)
+  where
+    go : (b : Bool) → leb (to - from) 129 ≡ b → take (min (to - from) 129) (drop from l) ≡ take 129 (take (to - from) (drop from l))
+    go true e =
+        let few = leb-true (to - from) 129 e in
+        let same : min (to - from) 129 ≡ to - from = omega arith in
+        let short : length (take (to - from) (drop from l)) ≤ 129 = rw length-take (omega arith) in
+        rw (same, take-all 129 (take (to - from) (drop from l)) short)
+    go false e =
+        let many = leb-false (to - from) 129 e in
+        let same : min (to - from) 129 ≡ 129 = omega arith in
+        rw (same, take-take 129 (to - from) (drop from l) (omega arith))
+
+-- as the code has it: `to` is where the piece ends in the buffer l, f what its lines did
+module _ (s : Standing) (room end : ℕ) (l : List ℕ) (to : ℕ) (t : to ≡ min end (length l)) (f : Fed)
+    (e : f ≡ feedTold s room (take (to - 0) (drop 0 l))) where
+  input : take (to - 0) (drop 0 l) ≡ take end l
+  input = rw t (take-lesser end l)
+
+  told : f ≡ feedTold s room (take end l)
+  told = e ∙ ap (feedTold s room) input
+
+  place : f .next ≡ taken (fitting room (take end l))
+  unfolding feedTold
+  place = ap (λ x. x .next) told
+
+  pub next-within : f .next ≤ to
+  next-within =
+      let within = taken-within room (take end l) in
+      let long = length-take end l in
+      omega (arith, place)
+
+  pub answers-there : (out new : List ℕ) → new ≡ over (pieceAnswers s room (take (to - 0) (drop 0 l))) out
+      → new ≡ over (pieceAnswers s room (take end l)) out
+  answers-there out new k = k ∙ ap (λ xs. over (pieceAnswers s room xs) out) input
+
+  module _ (n : ℕ) (k : n ≡ min (to - f .next) 129) where
+    pub front-fits : f .next + n ≤ length l
+    front-fits = let h = next-within in omega arith
+
+    left-there : take n (drop (f .next) l) ≡ pieceLeft room (take end l)
+    unfolding pieceLeft
+    left-there =
+        let h = next-within in
+        let same : to ≡ to - 0 = omega arith in
+        let whole : take to l ≡ take end l = ap (λ m. take m l) same ∙ input in
+        rw k (kept-front (f .next) to l h (omega arith)) ∙ ap (λ xs. kept (drop (f .next) xs)) whole ∙ ap (λ m. kept (drop m (take end l))) place
+
+    pub left-moved : (new : List ℕ) → new ≡ over (take n (drop (f .next) l)) l → new ≡ over (pieceLeft room (take end l)) l
+    left-moved new h = h ∙ ap (λ xs. over xs l) left-there
+
+    pub held-told : record { standing = f .standing; held = n; written = f .written } ≡ pieceTold s room (take end l)
+    unfolding pieceTold feedTold
+    held-told =
+        let so-many : length (take n (drop (f .next) l)) ≡ n = length-take-le n (drop (f .next) l) (rw length-drop (omega (arith, front-fits))) in
+        let many : n ≡ length (pieceLeft room (take end l)) = sym so-many ∙ ap length left-there in
+        let stands : f .standing ≡ stood s (fitting room (take end l)) = ap (λ x. x .standing) told in
+        let wrote : f .written ≡ 15 * length (fitting room (take end l)) = ap (λ x. x .written) told in
+        rw (stands, wrote, many)
+
+-- ---- the end
+
+pub ending-none : (s : Standing) (rest out : List ℕ) → length rest ≡ 0 → (0 ≡ endingLength s rest (length out)) × (out ≡ placed 0 (ending s rest) out)
+unfolding endingLength ending placed
+ending-none s [] out h = (simp (le-leb 0 (length out) (omega arith)), simp (le-leb 0 (length out) (omega arith)))
+ending-none s (b ∷ bs) out h = absurd (omega arith)
+
+pub ending-no-room : (s : Standing) (rest out : List ℕ) → (length rest ≡ 0 → ⊥) → length out < 15
+    → (0 ≡ endingLength s rest (length out)) × (out ≡ placed 0 (ending s rest) out)
+unfolding endingLength ending placed
+ending-no-room s [] out n h = absurd (n refl)
+ending-no-room s (b ∷ bs) out n h = (simp (answer-length, lt-leb 15 (length out) h), simp (answer-length, lt-leb 15 (length out) h))
+
+pub ending-some : (s : Standing) (rest out : List ℕ) → (length rest ≡ 0 → ⊥) → 15 ≤ length out
+    → (15 ≡ endingLength s rest (length out)) × (placed 0 (answerLine (malformed (s .table) .answer)) out ≡ placed 0 (ending s rest) out)
+unfolding endingLength ending
+ending-some s [] out n h = absurd (n refl)
+ending-some s (b ∷ bs) out n h = (simp (answer-length, le-leb 15 (length out) h), refl)
+
+-- ---- room for an answer to every byte is room for all lines
+
+cut-behind : (bs : List ℕ) → drop (taken (cut bs .lines)) bs ≡ cut bs .rest
+unfolding cut taken
+cut-behind [] = refl
+cut-behind (b ∷ bs) = go (eqb b 10) refl (cut-behind bs)
+  where
+    more : (lines : List (List ℕ)) (rest : List ℕ) → drop (taken lines) bs ≡ rest → drop (taken (onto b lines rest .lines)) (b ∷ bs) ≡ onto b lines rest .rest
+    more [] rest h = ap (λ xs. b ∷ xs) h
+    more (line ∷ lines) rest h =
+        let one : suc (suc (length line)) + taken lines ≡ suc (suc (length line) + taken lines) = omega arith in
+        rw one h
+
+    go : (x : Bool) → eqb b 10 ≡ x → drop (taken (cut bs .lines)) bs ≡ cut bs .rest → drop (taken (cut (b ∷ bs) .lines)) (b ∷ bs) ≡ cut (b ∷ bs) .rest
+    go true e ih = let one : suc 0 + taken (cut bs .lines) ≡ suc (taken (cut bs .lines)) = omega arith in rw (e, one) ih
+    go false e ih = rw e (more (cut bs .lines) (cut bs .rest) ih)
+
+lines-few : (lines : List (List ℕ)) → length lines ≤ taken lines
+unfolding taken
+lines-few [] = omega arith
+lines-few (line ∷ lines) = let ih = lines-few lines in omega arith
+
+module _ (room : ℕ) (input : List ℕ) (enough : 15 * length input ≤ room) where
+  pub fitting-all : fitting room input ≡ cut input .lines
+  unfolding fitting
+  fitting-all = take-all (room / 15) (cut input .lines) (let few = lines-few (cut input .lines) in let fits = cut-fits input in omega arith)
+
+  pub left-all : pieceLeft room input ≡ kept (cut input .rest)
+  unfolding pieceLeft
+  left-all = rw (fitting-all, cut-behind input)

@@ -1,0 +1,19 @@
+use borrow.Author.Needs.{needs}
+use native.Mathlib.Omega.{arith}
+use Rattle.session.specs.Steps.{firstRefused}
+use mathlib.Core.Path.{ap}
+use Rattle.session.proofs.first.first_refused.Statement.{statement}
+use Rattle.session.proofs.first.first_refused.Tie as tie
+use Rattle.session.proofs.first.first_refused.Reads as reads
+use Rattle.session.proofs.first.first_refused.Lts as lts
+use Rattle.session.proofs.first.zeros.Reads as zeros-reads
+
+zeros-requires : tie.Need-zeros-requires
+zeros-requires c κs = search needs
+
+returns : tie.Need-returns
+unfolding firstRefused
+returns c = ap (λ t. record { table = t; answer = record { status = c .before .args .status; value = 0; key = 0; elected = 255 } }) (c .zeros .ensures)
+
+pub first-refused-spec : {M : Type 1} → statement M
+first-refused-spec = tie.close (tie.spec zeros-requires returns)

@@ -1,0 +1,35 @@
+use borrow.Author.Needs.{needs}
+use native.Mathlib.Omega.{arith}
+use mathlib.Core.Path.{ap, _∙_}
+use Rattle.rules.specs.declared.Done.{Done}
+use Rattle.lines.specs.Answers.{answerLine, placed}
+use Rattle.session.proofs.Buffers.{ending-none, ending-no-room, ending-some}
+use Rattle.session.proofs.pieces.finish.Statement.{statement}
+use Rattle.session.proofs.pieces.finish.Tie as tie
+use Rattle.session.proofs.pieces.finish.Reads as reads
+use Rattle.session.proofs.pieces.finish.Lts as lts
+use Rattle.lines.proofs.put_answer.Reads as put-answer-reads
+use Rattle.session.proofs.steps.malformed.Reads as malformed-reads
+
+returns : tie.Need-returns
+returns c = ending-none (c .before .before .before .args .s) (c .before .before .before .args .rest .now) (c .before .before .before .args .out .now) (c .if1 .taken)
+
+returns-2 : tie.Need-returns-2
+returns-2 c = ending-no-room (c .before .before .before .before .args .s) (c .before .before .before .before .args .rest .now) (c .before .before .before .before .args .out .now) (c .before .if1 .left) (c .if2 .taken)
+
+malformed-requires : tie.Need-malformed-requires
+malformed-requires c κs = search needs
+
+put-answer-requires : tie.Need-put-answer-requires
+put-answer-requires c κs = search needs
+
+same-length : tie.Need-same-length
+same-length c = search needs
+
+returns-3 : tie.Need-returns-3
+returns-3 c = let e = ending-some (c .before .before .before .before .before .before .before .before .before .before .args .s) (c .before .before .before .before .before .before .before .before .before .before .args .rest .now) (c .before .before .before .before .before .before .before .before .before .before .args .out .now) (c .before .before .before .before .before .before .before .if1 .left) (c .before .before .before .before .before .before .if2 .left) in (e .0, (c .before .before .put-answer .ensures) ∙ ap (λ (d : Done). placed 0 (answerLine (d .answer)) (c .before .before .before .before .before .before .before .before .before .before .args .out .now)) (c .before .before .before .before .malformed .ensures) ∙ e .1)
+
+pub finish-spec : {M : Type 1} → statement M
+finish-spec =
+    tie.close
+    (tie.spec returns returns-2 malformed-requires put-answer-requires same-length returns-3)

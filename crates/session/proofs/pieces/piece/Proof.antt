@@ -1,0 +1,59 @@
+use borrow.Author.Needs.{needs}
+use native.Mathlib.Omega.{arith}
+use Rattle.session.proofs.Buffers.{next-within, answers-there, front-fits, left-moved, held-told}
+use Rattle.session.proofs.pieces.piece.Statement.{statement}
+use Rattle.session.proofs.pieces.piece.Tie as tie
+use Rattle.session.proofs.pieces.piece.Reads as reads
+use Rattle.session.proofs.pieces.piece.Lts as lts
+use Rattle.session.proofs.ended.feed.Reads as feed-reads
+use Rattle.session.proofs.pieces.lesser.Reads as lesser-reads
+use Rattle.session.proofs.pieces.to_front.Reads as to-front-reads
+
+lesser-requires : tie.Need-lesser-requires
+lesser-requires c κs = search needs
+
+sub-feed : tie.Need-sub-feed
+sub-feed c = search needs
+
+part-feed-start : tie.Need-part-feed-start
+part-feed-start c = search needs
+
+part-feed-end : tie.Need-part-feed-end
+part-feed-end c = search needs
+
+feed-requires : tie.Need-feed-requires
+feed-requires c κs = search needs
+
+sub-lesser : tie.Need-sub-lesser
+sub-lesser c = next-within _ _ _ _ _ (c .before .before .before .before .before .before .lesser .ensures) _ (c .before .before .feed .ensures .0)
+
+lesser-requires-2 : tie.Need-lesser-requires-2
+lesser-requires-2 c κs = search needs
+
+to-front-requires : tie.Need-to-front-requires
+to-front-requires c κs = front-fits _ _ _ _ _ (c .before .before .before .before .before .before .before .before .lesser .ensures) _ (c .before .before .before .before .feed .ensures .0) _ (c .before .lesser2 .ensures)
+
+same-length : tie.Need-same-length
+same-length c = search needs
+
+same-length-2 : tie.Need-same-length-2
+same-length-2 c = search needs
+
+returns : tie.Need-returns
+returns c = (held-told _ _ _ _ _ (c .before .before .before .before .before .before .before .before .before .before .before .before .lesser .ensures) _ (c .before .before .before .before .before .before .before .before .feed .ensures .0) _ (c .before .before .before .before .before .lesser2 .ensures), (left-moved _ _ _ _ _ (c .before .before .before .before .before .before .before .before .before .before .before .before .lesser .ensures) _ (c .before .before .before .before .before .before .before .before .feed .ensures .0) _ (c .before .before .before .before .before .lesser2 .ensures) _ (c .before .before .before .to-front .ensures), answers-there _ _ _ _ _ (c .before .before .before .before .before .before .before .before .before .before .before .before .lesser .ensures) _ (c .before .before .before .before .before .before .before .before .feed .ensures .0) _ _ (c .before .before .before .before .before .before .before .before .feed .ensures .1)))
+
+pub piece-spec : {M : Type 1} → statement M
+piece-spec =
+    tie.close
+    (tie.spec
+    lesser-requires
+    sub-feed
+    part-feed-start
+    part-feed-end
+    feed-requires
+    sub-lesser
+    lesser-requires-2
+    to-front-requires
+    same-length
+    same-length-2
+    returns)

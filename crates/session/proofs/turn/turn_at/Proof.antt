@@ -1,0 +1,80 @@
+use borrow.Author.Needs.{needs}
+use native.Mathlib.Omega.{arith}
+use Rattle.session.proofs.Turns.{whole-within, turn-whole, turn-too-long, turn-unended, turn-nothing}
+use Rattle.session.proofs.turn.turn_at.Statement.{statement}
+use Rattle.session.proofs.turn.turn_at.Tie as tie
+use Rattle.session.proofs.turn.turn_at.Reads as reads
+use Rattle.session.proofs.turn.turn_at.Lts as lts
+use Rattle.lines.proofs.line_at.Reads as line-at-reads
+use Rattle.session.proofs.steps.malformed.Reads as malformed-reads
+use Rattle.session.proofs.steps.one_line.Reads as one-line-reads
+use Rattle.session.proofs.turn.too_long.Reads as too-long-reads
+
+line-at-requires : tie.Need-line-at-requires
+line-at-requires c κs = search needs
+
+enum-known-line : tie.Need-enum-known-line
+enum-known-line c = search needs
+
+sub-one-line : tie.Need-sub-one-line
+sub-one-line c = whole-within _ _ _ _ _ _ (c .before .before .before .line-at .ensures) (c .before .line .given .1) .0
+
+part-one-line-start : tie.Need-part-one-line-start
+part-one-line-start c = let w = whole-within _ _ _ _ _ _ (c .before .before .before .line-at .ensures) (c .before .line .given .1) in search needs
+
+part-one-line-end : tie.Need-part-one-line-end
+part-one-line-end c = let w = whole-within _ _ _ _ _ _ (c .before .before .before .line-at .ensures) (c .before .line .given .1) in search needs
+
+one-line-requires : tie.Need-one-line-requires
+one-line-requires c κs = search needs
+
+enum-known-line-2 : tie.Need-enum-known-line-2
+enum-known-line-2 c = search needs
+
+too-long-requires : tie.Need-too-long-requires
+too-long-requires c κs = search needs
+
+enum-told : tie.Need-enum-told
+enum-told c = search needs
+
+malformed-requires : tie.Need-malformed-requires
+malformed-requires c κs = search needs
+
+enum-told-2 : tie.Need-enum-told-2
+enum-told-2 c = search needs
+
+malformed-requires-2 : tie.Need-malformed-requires-2
+malformed-requires-2 c κs = search needs
+
+returns : tie.Need-returns
+returns c = turn-whole _ _ _ _ (c .before .before .before .before .before .line-at .ensures) _ _ _ _ (c .before .before .before .line .given .1) (c .one-line .ensures)
+
+returns-2 : tie.Need-returns-2
+returns-2 c = turn-too-long _ _ _ _ (c .before .before .before .before .line-at .ensures) _ _ (c .before .before .line2 .given .1) (c .too-long .ensures)
+
+returns-3 : tie.Need-returns-3
+returns-3 c = search (turn-unended, needs)
+
+returns-4 : tie.Need-returns-4
+returns-4 c = search (turn-nothing, needs)
+
+pub turn-at-spec : {M : Type 1} → statement M
+turn-at-spec =
+    tie.close
+    (tie.spec
+    line-at-requires
+    enum-known-line
+    sub-one-line
+    part-one-line-start
+    part-one-line-end
+    one-line-requires
+    enum-known-line-2
+    too-long-requires
+    enum-told
+    malformed-requires
+    enum-told-2
+    malformed-requires-2
+    returns
+    returns-2
+    returns-3
+    returns-4)

@@ -1,0 +1,74 @@
+// A run over the input piece by piece: the start, each piece, and the end.
+use crate::Held;
+use crate::Standing;
+use crate::ended::feed;
+use crate::first::zeros;
+use crate::steps::malformed;
+use lines::put_answer;
+ghost use mathlib.Core.Path.{_≡_};
+ghost use Prim.Native.Nat.{_+_, _≤_, min};
+ghost use lib.ListN.{length, take, drop};
+ghost use Rattle.lines.specs.Answers.{placed};
+ghost use Rattle.session.specs.Run as run;
+ghost use Rattle.session.specs.Pieces.{pieceTold, pieceLeft, pieceAnswers, over, endingLength};
+
+pub fn start() -> Standing
+    ensures { λ r. ⌜ r ≡ run.start ⌝ }
+{
+    Standing {
+        table: zeros(),
+        begun: false,
+    }
+}
+
+fn lesser(x: usize, y: usize) -> usize
+    ensures { λ r. ⌜ r ≡ min x y ⌝ }
+{
+    if x < y { x } else { y }
+}
+
+// Moves the n bytes from `from` on to the front.
+fn to_front(buffer: &mut [u8], from: usize, n: usize)
+    requires { ⌜ from + n ≤ length (now buffer) ⌝ }
+    ensures { λ _. ⌜ now (buffer .exit) ≡ over (take n (drop from (now (buffer .entry)))) (now (buffer .entry)) ⌝ }
+{
+    for i in 0..n {
+        buffer[i] = buffer[from + i];
+    }
+}
+
+// Answers the ended lines of the buffer's first `end` bytes, and moves what is left unended to its front.
+pub fn piece(s: Standing, buffer: &mut [u8], end: usize, out: &mut [u8]) -> Held
+    ensures told { λ r. ⌜ r ≡ pieceTold s (length (now (out .entry))) (take end (now (buffer .entry))) ⌝ }
+    ensures left { λ _. ⌜ now (buffer .exit) ≡ over (pieceLeft (length (now (out .entry))) (take end (now (buffer .entry)))) (now (buffer .entry)) ⌝ }
+    ensures answers { λ _. ⌜ now (out .exit) ≡ over (pieceAnswers s (length (now (out .entry))) (take end (now (buffer .entry)))) (now (out .entry)) ⌝ }
+{
+    let to = lesser(end, buffer.len());
+    let f = feed(s, &buffer[0..to], out);
+    let from = f.next;
+    let n = lesser(to - from, 129);
+    to_front(buffer, from, n);
+    let standing = f.standing;
+    Held {
+        standing: standing,
+        held: n,
+        written: f.written,
+    }
+}
+
+// The end of the input: bytes that no line feed ended get one answer. Returns how many bytes were written.
+pub fn finish(s: Standing, rest: &[u8], out: &mut [u8]) -> usize
+    ensures told { λ r. ⌜ r ≡ endingLength s (now (rest .entry)) (length (now (out .entry))) ⌝ }
+    ensures written { λ _. ⌜ now (out .exit) ≡ placed 0 (run.ending s (now (rest .entry))) (now (out .entry)) ⌝ }
+{
+    if rest.len() == 0 {
+        return 0;
+    }
+    if out.len() < 15 {
+        return 0;
+    }
+    let t = s.table;
+    let d = malformed(t);
+    put_answer(out, 0, d.answer);
+    15
+}
