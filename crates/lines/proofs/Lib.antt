@@ -2,3 +2,4 @@
 pub mod Hexadecimal
 pub mod Parts
 pub mod Search
+pub mod Places

@@ -3,3 +3,4 @@ pub mod Digits
 pub mod Ends
 pub mod Calls
 pub mod Answers
+pub mod Reading

@@ -3,6 +3,7 @@ mod answer;
 mod call;
 mod digits;
 mod ends;
+mod reader;
 
 pub use answer::put_answer;
 pub use call::call_of;
@@ -12,3 +13,8 @@ pub use digits::put_digits;
 pub use digits::word_at;
 pub use ends::Line;
 pub use ends::line_at;
+pub use reader::Reader;
+pub use reader::left;
+pub use reader::place_after;
+pub use reader::reader_of;
+pub use reader::rest_at;

@@ -1,0 +1,51 @@
+// A reader that walks the lines of a lent log and remembers its place: thin functions over the line reader by value.
+ghost use mathlib.Core.Path.{_≡_};
+ghost use lib.ListN.{drop};
+ghost use Rattle.lines.specs.Reading.{placeAfter};
+use crate::ends::Line;
+
+// The log, and the place where its next line begins.
+pub struct Reader<'a> {
+    pub log: &'a [u8],
+    pub at: usize,
+}
+
+// The place behind a line: behind its line feed, or the end of the log where none ends it.
+pub fn place_after(s: &[u8], line: Line) -> usize
+    ensures { λ r. ⌜ r ≡ placeAfter (now (s .entry)) line ⌝ }
+{
+    match line {
+        Line::Whole {
+            start: _,
+            end: _,
+            next,
+        } => next,
+        Line::TooLong { next } => next,
+        Line::Unended => s.len(),
+        Line::Nothing => s.len(),
+    }
+}
+
+// What stands from a place on: nothing where the place lies past the end.
+pub fn rest_at(s: &[u8], at: usize) -> &[u8]
+    ensures { λ r. ⌜ now r ≡ drop at (now (s .entry)) ⌝ }
+{
+    if at < s.len() {
+        return &s[at..];
+    }
+    &s[s.len()..]
+}
+
+// A reader at a place.
+pub fn reader_of<'a>(log: &'a [u8], at: usize) -> Reader<'a>
+    ensures { λ r. ⌜ (r .log ≡ log .entry) × (r .at ≡ at) ⌝ }
+{
+    Reader { log, at }
+}
+
+// What is left of the log from the reader's place on.
+pub fn left<'a>(r: Reader<'a>) -> &'a [u8]
+    ensures { λ s. ⌜ now s ≡ drop (r .entry .at) (now (r .entry .log)) ⌝ }
+{
+    rest_at(r.log, r.at)
+}
