@@ -15,6 +15,7 @@ pub use ends::Line;
 pub use ends::line_at;
 pub use reader::Reader;
 pub use reader::left;
+pub use reader::next_line;
 pub use reader::place_after;
 pub use reader::reader_of;
 pub use reader::rest_at;

@@ -1,8 +1,10 @@
 // A reader that walks the lines of a lent log and remembers its place: thin functions over the line reader by value.
 ghost use mathlib.Core.Path.{_≡_};
 ghost use lib.ListN.{drop};
+ghost use Rattle.lines.specs.Ends.{lineAt};
 ghost use Rattle.lines.specs.Reading.{placeAfter};
 use crate::ends::Line;
+use crate::ends::line_at;
 
 // The log, and the place where its next line begins.
 pub struct Reader<'a> {
@@ -41,6 +43,17 @@ pub fn reader_of<'a>(log: &'a [u8], at: usize) -> Reader<'a>
     ensures { λ r. ⌜ (r .log ≡ log .entry) × (r .at ≡ at) ⌝ }
 {
     Reader { log, at }
+}
+
+// The line at the reader's place; the reader moves behind it.
+pub fn next_line<'s, 'a>(r: &'s mut Reader<'a>) -> Line
+    ensures { λ l. ⌜ (l ≡ lineAt (now (now (r .entry) .log)) (now (r .entry) .at)) × (now (r .exit) .log ≡ now (r .entry) .log)
+        × (now (r .exit) .at ≡ placeAfter (now (now (r .entry) .log)) (lineAt (now (now (r .entry) .log)) (now (r .entry) .at))) ⌝ }
+{
+    let log = r.log;
+    let line = line_at(log, r.at);
+    r.at = place_after(log, line);
+    line
 }
 
 // What is left of the log from the reader's place on.
