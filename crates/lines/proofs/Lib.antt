@@ -3,3 +3,4 @@ pub mod Hexadecimal
 pub mod Parts
 pub mod Search
 pub mod Places
+pub mod Lent

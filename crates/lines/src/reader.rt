@@ -62,3 +62,20 @@ pub fn left<'a>(r: Reader<'a>) -> &'a [u8]
 {
     rest_at(r.log, r.at)
 }
+
+// The line at a place of a log, by a reader: whoever calls it sees no reader.
+pub fn line_from(s: &[u8], at: usize) -> Line
+    ensures { λ r. ⌜ r ≡ lineAt (now (s .entry)) at ⌝ }
+{
+    let mut reader = reader_of(s, at);
+    next_line(&mut reader)
+}
+
+// What is left of a log behind the line at a place, by a reader.
+pub fn after_line(s: &[u8], at: usize) -> &[u8]
+    ensures { λ r. ⌜ now r ≡ drop (placeAfter (now (s .entry)) (lineAt (now (s .entry)) at)) (now (s .entry)) ⌝ }
+{
+    let mut reader = reader_of(s, at);
+    next_line(&mut reader);
+    left(reader)
+}
