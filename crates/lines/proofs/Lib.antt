@@ -1,6 +1,4 @@
 -- Laws for this crate's proofs and for its callers'.
-pub mod Hexadecimal
-pub mod Parts
 pub mod Search
 pub mod Places
 pub mod Lent

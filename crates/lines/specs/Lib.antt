@@ -1,6 +1,3 @@
--- What document 01 says of the bench's lines: hexadecimal, where a line ends, the call in a line, the answer line.
-pub mod Digits
+-- What document 01 says of lines: where a line ends, and where the next one begins.
 pub mod Ends
-pub mod Calls
-pub mod Answers
 pub mod Reading

@@ -1,16 +1,7 @@
-// The bench's lines: where a line ends, hexadecimal both ways, the call that a line holds, and the answer line.
-mod answer;
-mod call;
-mod digits;
+// The bench's lines: where a line ends, over a slice and a place by value; and a reader that walks the lines and remembers its place.
 mod ends;
 mod reader;
 
-pub use answer::put_answer;
-pub use call::call_of;
-pub use digits::all_digits;
-pub use digits::byte_at;
-pub use digits::put_digits;
-pub use digits::word_at;
 pub use ends::Line;
 pub use ends::line_at;
 pub use reader::Reader;

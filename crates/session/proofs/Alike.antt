@@ -1,12 +1,11 @@
 -- Laws of what lines write: lines behind lines, and lines that are too long, which are all alike.
 use Prim.Native.Nat.{ℕ, _<_}
-use mathlib.Core.Path.{_≡_, refl, sym, ap, _∙_}
-use mathlib.Core.Bool.{Bool, true, false}
+use mathlib.Core.Path.{_≡_, refl, sym, _∙_}
 use mathlib.Core.List.{List, [], _∷_, _++_, append-assoc}
 use lib.ListN.{length}
 use borrow.Author.Tests.{lt-leb}
 use Rattle.lines.specs.Ends.{longest}
-use Rattle.lines.specs.Answers.{answerLine}
+use Rattle.frames.specs.Answers.{answerLine}
 use Rattle.session.specs.declared.Standing.{Standing}
 use Rattle.session.specs.Steps.{plain, callLine, firstReasons, firstLine, lineDone}
 use Rattle.session.specs.Run.{after, answered, stood}

@@ -3,7 +3,6 @@ use Prim.Native.Nat.{ℕ, _%_, _≤_}
 use mathlib.Core.Path.{_≡_, refl, sym, ap, _∙_}
 use mathlib.Core.Bool.{Bool, true, false, not, _&&_, _||_, and-false}
 use mathlib.Core.List.{List}
-use native.Mathlib.Omega.{arith}
 use lib.Dec.{eqb, ltb, leb}
 use lib.ListN.{length}
 use borrow.Author.Tests.{ne-eqb, leb-true}
@@ -13,9 +12,9 @@ use Rattle.rules.specs.declared.Done.{Done}
 use Rattle.rules.specs.Words.{every}
 use Rattle.rules.proofs.Bools.{and-left}
 use Rattle.rules.specs.Step.{step}
-use Rattle.lines.specs.Digits.{isDigit}
+use Rattle.frames.specs.Digits.{isDigit}
 use Rattle.lines.specs.Ends.{longest}
-use Rattle.lines.specs.Calls.{callLength, callIn}
+use Rattle.frames.specs.Calls.{callLength, callIn}
 use Rattle.session.specs.declared.Standing.{Standing}
 use Rattle.session.specs.Steps.{plain, malformed, callLine, firstReasons, firstRefused, firstLine, lineDone}
 use Rattle.session.specs.Pieces.{tooLong}

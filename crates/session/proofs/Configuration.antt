@@ -2,21 +2,21 @@
 use Prim.Native.Nat.{ℕ, zero, suc, _+_, _*_, _-_, _/_, _%_, _<_, _≤_}
 use mathlib.Core.Path.{_≡_, refl, sym, ap, _∙_}
 use mathlib.Core.Bool.{Bool, true, false, cond, not, _||_, and-true}
-use mathlib.Core.List.{List, [], _∷_, _++_}
+use mathlib.Core.List.{List, [], _∷_}
 use native.Mathlib.Omega.{arith}
 use lib.Dec.{eqb, ltb, leb}
 use lib.ListN.{length, take, drop, getD, set, replicate, length-drop}
 use lib.Seq.{take-length, take-all, length-take-le, take-append-le, drop-append-le}
 use borrow.Author.Tests.{lt-ltb, le-leb, eq-eqb, ne-eqb, leb-true, leb-false}
-use Rattle.rules.specs.Words.{isZero, all, every, padded, first}
+use Rattle.rules.specs.Words.{all, every, padded, first}
 use Rattle.rules.specs.Validity.{countsInRange, boundInRange}
 use Rattle.rules.specs.Answers.{done, refused}
 use Rattle.rules.specs.Fresh.{configurationInRange, freshTable, zeroTable, fresh}
 use Rattle.rules.proofs.Bools.{given}
 use Rattle.rules.proofs.Lists.{every-cons, every-nil, every-take, every-drop, padded-at, padded-past, length-padded}
-use Rattle.lines.specs.Digits.{value}
-use Rattle.lines.specs.Calls.{field}
-use Rattle.lines.proofs.Hexadecimal.{value-fits}
+use Rattle.frames.specs.Digits.{value}
+use Rattle.frames.specs.Calls.{field}
+use Rattle.frames.proofs.Hexadecimal.{value-fits}
 use Rattle.configure.proofs.Fills.{filled, filled-again, filled-end}
 use Rattle.session.specs.Steps.{plain, numbers, tasksIn, regionsIn, queuesIn, prioritiesIn, boundsIn, firstReasons, firstRefused, firstLine}
 use Rattle.session.specs.Pieces.{part}

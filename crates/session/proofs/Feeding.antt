@@ -4,13 +4,13 @@ use mathlib.Core.Path.{_≡_, refl, sym, ap, _∙_}
 use mathlib.Core.Bool.{Bool, true}
 use mathlib.Core.List.{List, [], _∷_, _++_, append-assoc, append-nil}
 use native.Mathlib.Omega.{arith}
-use lib.ListN.{length, take, drop, length-append, length-take, length-drop, take-append-drop}
+use lib.ListN.{length, take, drop, length-append, length-drop, take-append-drop}
 use lib.Seq.{take-nil, take-at, drop-at, drop-drop, length-take-le}
 use borrow.Author.Tests.{le-leb}
 use Rattle.rules.specs.declared.Table.{Table}
 use Rattle.rules.specs.declared.Answer.{Answer}
-use Rattle.lines.specs.Answers.{answerLine, placed}
-use Rattle.lines.proofs.Parts.{answer-length}
+use Rattle.frames.specs.Answers.{answerLine, placed}
+use Rattle.frames.proofs.Parts.{answer-length}
 use Rattle.session.specs.declared.Standing.{Standing}
 use Rattle.session.specs.declared.turn.Turn.{Turn}
 use Rattle.session.specs.Steps.{lineDone}

@@ -1,18 +1,17 @@
 -- A run over parts of the input, however the input is cut, writes the same bytes as the run over the whole.
 use Prim.Native.Nat.{ℕ, suc, _*_, _≤_, _<_}
-use mathlib.Core.Path.{_≡_, refl, sym, ap, _∙_}
+use mathlib.Core.Path.{_≡_, refl, sym, _∙_}
 use mathlib.Core.Bool.{Bool, true, false}
 use mathlib.Core.List.{List, [], _∷_, _++_, append-assoc, append-nil}
 use native.Mathlib.Omega.{arith}
 use lib.Dec.{leb}
-use lib.ListN.{length, take, length-append, length-take}
+use lib.ListN.{length, take, length-append}
 use lib.Seq.{take-all, take-append-le, take-take, length-take-le}
 use borrow.Author.Tests.{leb-true, leb-false}
 use Rattle.rules.specs.Queues.{before}
 use Rattle.lines.specs.Ends.{lineFeed, longest}
 use Rattle.session.specs.declared.Standing.{Standing}
-use Rattle.session.specs.Steps.{lineDone}
-use Rattle.session.specs.Run.{Cut, cut, start, after, answered, stood, ending, runFrom, run, kept, joined, runParts}
+use Rattle.session.specs.Run.{Cut, cut, start, answered, stood, ending, runFrom, run, kept, joined, runParts}
 use Rattle.session.specs.Pieces.{pieceAnswers, pieceLeft, pieceTold}
 use Rattle.session.proofs.Cuts.{cut-unended, cut-rest, cut-append, cut-onto, unended-take, ontoAll}
 use Rattle.session.proofs.Alike.{answered-append, stood-append, long-alike}

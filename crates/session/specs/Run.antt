@@ -6,7 +6,7 @@ use lib.Dec.{eqb}
 use lib.ListN.{take}
 use Rattle.rules.specs.Fresh.{zeroTable}
 use Rattle.lines.specs.Ends.{lineFeed, longest}
-use Rattle.lines.specs.Answers.{answerLine}
+use Rattle.frames.specs.Answers.{answerLine}
 use Rattle.session.specs.declared.Standing.{Standing}
 use Rattle.session.specs.Steps.{malformed, lineDone}
 

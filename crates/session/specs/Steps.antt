@@ -12,9 +12,9 @@ use Rattle.rules.specs.Validity.{countsInRange, boundInRange}
 use Rattle.rules.specs.Answers.{done}
 use Rattle.rules.specs.Fresh.{freshTable, zeroTable}
 use Rattle.rules.specs.Step.{step}
-use Rattle.lines.specs.Digits.{isDigit, value}
+use Rattle.frames.specs.Digits.{isDigit, value}
 use Rattle.lines.specs.Ends.{longest}
-use Rattle.lines.specs.Calls.{callLength, callIn}
+use Rattle.frames.specs.Calls.{callLength, callIn}
 use Rattle.session.specs.declared.Standing.{Standing}
 
 -- no "other character", and not "over 128 characters"

@@ -2,7 +2,7 @@
 use crate::Fed;
 use crate::Standing;
 use crate::turn::turn_at;
-use lines::put_answer;
+use frames::put_answer;
 use rules::Table;
 ghost use mathlib.Core.Path.{_≡_};
 ghost use lib.ListN.{length};

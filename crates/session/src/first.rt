@@ -1,7 +1,7 @@
 // The first line: the configuration.
 use executive::fresh;
-use lines::all_digits;
-use lines::byte_at;
+use frames::all_digits;
+use frames::byte_at;
 use refusals::counts_right;
 use rules::Answer;
 use rules::Done;

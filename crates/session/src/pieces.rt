@@ -4,11 +4,11 @@ use crate::Standing;
 use crate::ended::feed;
 use crate::first::zeros;
 use crate::steps::malformed;
-use lines::put_answer;
+use frames::put_answer;
 ghost use mathlib.Core.Path.{_≡_};
 ghost use Prim.Native.Nat.{_+_, _≤_, min};
 ghost use lib.ListN.{length, take, drop};
-ghost use Rattle.lines.specs.Answers.{placed};
+ghost use Rattle.frames.specs.Answers.{placed};
 ghost use Rattle.session.specs.Run as run;
 ghost use Rattle.session.specs.Pieces.{pieceTold, pieceLeft, pieceAnswers, over, endingLength};
 

@@ -2,8 +2,8 @@
 use crate::Standing;
 use crate::first::first_line;
 use executive::call;
-use lines::all_digits;
-use lines::call_of;
+use frames::all_digits;
+use frames::call_of;
 use rules::Answer;
 use rules::Done;
 use rules::Table;

@@ -4,7 +4,7 @@ use crate::first::first_refused;
 use crate::steps::malformed;
 use crate::steps::one_line;
 use lines::Line;
-use lines::line_at;
+use lines::line_from;
 use rules::Done;
 ghost use mathlib.Core.Path.{_≡_};
 ghost use Rattle.session.specs.Pieces.{tooLong, turnAt};
@@ -28,7 +28,7 @@ fn too_long(s: Standing) -> Done
 pub(crate) fn turn_at(s: Standing, input: &[u8], at: usize) -> Turn
     ensures { λ r. ⌜ r ≡ turnAt s (now (input .entry)) at ⌝ }
 {
-    let line = line_at(input, at);
+    let line = line_from(input, at);
     match line {
         Line::Whole { start, end, next } => Turn {
             done: one_line(s, &input[start..end]),

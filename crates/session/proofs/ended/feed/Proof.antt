@@ -1,14 +1,9 @@
+-- What is done and what is ahead make the whole, from turn to turn.
 use borrow.Author.Needs.{needs}
-use native.Mathlib.Omega.{arith}
 use mathlib.Core.Path.{_∙_}
 use Rattle.session.proofs.Feeding.{Going, going-start, going-again, going-told, going-written, ahead-no-room, ahead-no-line}
 use Rattle.session.proofs.ended.feed.Statement.{statement}
 use Rattle.session.proofs.ended.feed.Tie as tie
-use Rattle.session.proofs.ended.feed.Reads as reads
-use Rattle.session.proofs.ended.feed.Lts as lts
-use Rattle.lines.proofs.put_answer.Reads as put-answer-reads
-use Rattle.session.proofs.ended.fed_at.Reads as fed-at-reads
-use Rattle.session.proofs.turn.turn_at.Reads as turn-at-reads
 
 abbrev Inv-loop : tie.InvT-loop
 Inv-loop input out₀ t₀ begun₀ at₀ written₀ left₀ out t begun at written left = Going (record { table = t₀; begun = begun₀ }) input out₀ t begun at written left out

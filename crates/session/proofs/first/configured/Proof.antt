@@ -1,17 +1,12 @@
+-- Each test that fails refuses the line with its number; where none fails, the bounds decide.
 use borrow.Author.Needs.{needs}
 use native.Mathlib.Omega.{arith}
-use mathlib.Core.Path.{_∙_, refl}
+use mathlib.Core.Path.{_∙_}
 use Rattle.session.proofs.Called.{plain-short}
 use native.Mathlib.Omega.{arith}
 use Rattle.session.proofs.Configuration.{array-long, counts-small, counts-refuse, length-refuses, accepted}
 use Rattle.session.proofs.first.configured.Statement.{statement}
 use Rattle.session.proofs.first.configured.Tie as tie
-use Rattle.session.proofs.first.configured.Reads as reads
-use Rattle.session.proofs.first.configured.Lts as lts
-use Rattle.refusals.proofs.counts_right.Reads as counts-right-reads
-use Rattle.session.proofs.first.first_refused.Reads as first-refused-reads
-use Rattle.session.proofs.first.fresh_from.Reads as fresh-from-reads
-use Rattle.session.proofs.first.numbers_of.Reads as numbers-of-reads
 
 numbers-of-requires : tie.Need-numbers-of-requires
 numbers-of-requires c κs = plain-short _ (c .before .pre .0)

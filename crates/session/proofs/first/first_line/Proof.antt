@@ -1,14 +1,9 @@
+-- What comes before the counts: the characters, the length, an odd number of digits.
 use borrow.Author.Needs.{needs}
-use native.Mathlib.Omega.{arith}
 use mathlib.Core.Path.{_∙_}
 use Rattle.session.proofs.Called.{first-not-plain, line-plain, first-short-or-odd}
 use Rattle.session.proofs.first.first_line.Statement.{statement}
 use Rattle.session.proofs.first.first_line.Tie as tie
-use Rattle.session.proofs.first.first_line.Reads as reads
-use Rattle.session.proofs.first.first_line.Lts as lts
-use Rattle.lines.proofs.all_digits.Reads as all-digits-reads
-use Rattle.session.proofs.first.configured.Reads as configured-reads
-use Rattle.session.proofs.first.first_refused.Reads as first-refused-reads
 
 all-digits-requires : tie.Need-all-digits-requires
 all-digits-requires c κs = search needs

@@ -1,12 +1,9 @@
+-- The table is that of zeros.
 use borrow.Author.Needs.{needs}
-use native.Mathlib.Omega.{arith}
 use Rattle.session.specs.Steps.{firstRefused}
 use mathlib.Core.Path.{ap}
 use Rattle.session.proofs.first.first_refused.Statement.{statement}
 use Rattle.session.proofs.first.first_refused.Tie as tie
-use Rattle.session.proofs.first.first_refused.Reads as reads
-use Rattle.session.proofs.first.first_refused.Lts as lts
-use Rattle.session.proofs.first.zeros.Reads as zeros-reads
 
 zeros-requires : tie.Need-zeros-requires
 zeros-requires c κs = search needs

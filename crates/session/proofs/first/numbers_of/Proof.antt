@@ -1,17 +1,13 @@
+-- The array so far holds the numbers passed and zeros.
 use borrow.Author.Needs.{needs}
-use native.Mathlib.Omega.{arith}
 use Prim.Native.Nat.{_≤_, _-_, _/_}
 use mathlib.Core.Path.{_≡_}
 use lib.ListN.{length}
 use Rattle.configure.proofs.Fills.{filled}
-use Rattle.rules.proofs.Counts.{ends}
 use Rattle.session.specs.Steps.{numbers}
 use Rattle.session.proofs.Configuration.{numbers-again, numbers-end}
 use Rattle.session.proofs.first.numbers_of.Statement.{statement}
 use Rattle.session.proofs.first.numbers_of.Tie as tie
-use Rattle.session.proofs.first.numbers_of.Reads as reads
-use Rattle.session.proofs.first.numbers_of.Lts as lts
-use Rattle.lines.proofs.byte_at.Reads as byte-at-reads
 
 abbrev Inv-loop : tie.InvT-loop
 Inv-loop line out₀ n i₀ out i = (i ≤ length line / 2) × (out ≡ filled 64 i (numbers line))

@@ -1,14 +1,11 @@
+-- A configuration without a task is out of range, and its table is that of zeros.
 use borrow.Author.Needs.{needs}
-use native.Mathlib.Omega.{arith}
 use Rattle.rules.specs.Words.{all}
 use Rattle.rules.specs.Validity.{countsInRange}
-use Rattle.rules.specs.Fresh.{configurationInRange, fresh, zeroTable}
+use Rattle.rules.specs.Fresh.{configurationInRange, fresh}
 use mathlib.Core.Path.{ap}
 use Rattle.session.proofs.first.zeros.Statement.{statement}
 use Rattle.session.proofs.first.zeros.Tie as tie
-use Rattle.session.proofs.first.zeros.Reads as reads
-use Rattle.session.proofs.first.zeros.Lts as lts
-use Rattle.configure.proofs.fresh.Reads as fresh-reads
 
 slice-aggregate-fresh : tie.Need-slice-aggregate-fresh
 slice-aggregate-fresh c = search needs

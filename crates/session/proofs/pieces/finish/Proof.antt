@@ -1,15 +1,11 @@
+-- No byte is no line; without room nothing is written.
 use borrow.Author.Needs.{needs}
-use native.Mathlib.Omega.{arith}
 use mathlib.Core.Path.{ap, _∙_}
 use Rattle.rules.specs.declared.Done.{Done}
-use Rattle.lines.specs.Answers.{answerLine, placed}
+use Rattle.frames.specs.Answers.{answerLine, placed}
 use Rattle.session.proofs.Buffers.{ending-none, ending-no-room, ending-some}
 use Rattle.session.proofs.pieces.finish.Statement.{statement}
 use Rattle.session.proofs.pieces.finish.Tie as tie
-use Rattle.session.proofs.pieces.finish.Reads as reads
-use Rattle.session.proofs.pieces.finish.Lts as lts
-use Rattle.lines.proofs.put_answer.Reads as put-answer-reads
-use Rattle.session.proofs.steps.malformed.Reads as malformed-reads
 
 returns : tie.Need-returns
 returns c = ending-none (c .before .before .before .args .s) (c .before .before .before .args .rest .now) (c .before .before .before .args .out .now) (c .if1 .taken)

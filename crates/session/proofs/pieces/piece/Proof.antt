@@ -1,13 +1,8 @@
+-- The lines end within the piece, and what they leave is moved to the front.
 use borrow.Author.Needs.{needs}
-use native.Mathlib.Omega.{arith}
 use Rattle.session.proofs.Buffers.{next-within, answers-there, front-fits, left-moved, held-told}
 use Rattle.session.proofs.pieces.piece.Statement.{statement}
 use Rattle.session.proofs.pieces.piece.Tie as tie
-use Rattle.session.proofs.pieces.piece.Reads as reads
-use Rattle.session.proofs.pieces.piece.Lts as lts
-use Rattle.session.proofs.ended.feed.Reads as feed-reads
-use Rattle.session.proofs.pieces.lesser.Reads as lesser-reads
-use Rattle.session.proofs.pieces.to_front.Reads as to-front-reads
 
 lesser-requires : tie.Need-lesser-requires
 lesser-requires c κs = search needs

@@ -1,13 +1,9 @@
+-- The table is that of zeros, and no line has come.
 use borrow.Author.Needs.{needs}
-use native.Mathlib.Omega.{arith}
 use mathlib.Core.Path.{ap}
 use mathlib.Core.Bool.{false}
-use Rattle.session.specs.declared.Standing.{Standing}
 use Rattle.session.proofs.pieces.start.Statement.{statement}
 use Rattle.session.proofs.pieces.start.Tie as tie
-use Rattle.session.proofs.pieces.start.Reads as reads
-use Rattle.session.proofs.pieces.start.Lts as lts
-use Rattle.session.proofs.first.zeros.Reads as zeros-reads
 
 zeros-requires : tie.Need-zeros-requires
 zeros-requires c κs = search needs

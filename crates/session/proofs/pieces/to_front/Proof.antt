@@ -1,15 +1,12 @@
+-- The places passed hold what stood further on; those ahead are as they were.
 use borrow.Author.Needs.{needs}
-use native.Mathlib.Omega.{arith}
 use Prim.Native.Nat.{_≤_, _-_}
 use mathlib.Core.Path.{_≡_}
 use mathlib.Core.List.{_++_}
 use lib.ListN.{length, take, drop}
-use Rattle.rules.proofs.Counts.{ends}
 use Rattle.session.proofs.Buffers.{front-again, front-end}
 use Rattle.session.proofs.pieces.to_front.Statement.{statement}
 use Rattle.session.proofs.pieces.to_front.Tie as tie
-use Rattle.session.proofs.pieces.to_front.Reads as reads
-use Rattle.session.proofs.pieces.to_front.Lts as lts
 
 abbrev Inv-loop : tie.InvT-loop
 Inv-loop buffer₀ from n i₀ buffer i = (i ≤ n) × (length buffer ≡ length buffer₀) × (buffer ≡ take i (drop from buffer₀) ++ drop i buffer₀)

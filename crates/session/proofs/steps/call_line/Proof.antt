@@ -1,14 +1,8 @@
+-- A line of another length or with another character is malformed; else its call is made.
 use borrow.Author.Needs.{needs}
-use native.Mathlib.Omega.{arith}
 use Rattle.session.proofs.Called.{call-of-other-length, call-of-other-characters, call-of-digits}
 use Rattle.session.proofs.steps.call_line.Statement.{statement}
 use Rattle.session.proofs.steps.call_line.Tie as tie
-use Rattle.session.proofs.steps.call_line.Reads as reads
-use Rattle.session.proofs.steps.call_line.Lts as lts
-use Rattle.executive.proofs.call.Reads as call-reads
-use Rattle.lines.proofs.call_of.Reads as call-of-reads
-use Rattle.lines.proofs.all_digits.Reads as all-digits-reads
-use Rattle.session.proofs.steps.malformed.Reads as malformed-reads
 
 malformed-requires : tie.Need-malformed-requires
 malformed-requires c κs = search needs

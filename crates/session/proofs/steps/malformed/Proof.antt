@@ -1,11 +1,8 @@
-use borrow.Author.Needs.{needs}
-use native.Mathlib.Omega.{arith}
+-- Only the table of zeros has no task.
 use Rattle.session.specs.Steps.{malformed}
 use Rattle.rules.proofs.Counts.{tests}
 use Rattle.session.proofs.steps.malformed.Statement.{statement}
 use Rattle.session.proofs.steps.malformed.Tie as tie
-use Rattle.session.proofs.steps.malformed.Reads as reads
-use Rattle.session.proofs.steps.malformed.Lts as lts
 
 returns : tie.Need-returns
 unfolding malformed

@@ -1,12 +1,8 @@
+-- The first line, or a later one.
 use borrow.Author.Needs.{needs}
-use native.Mathlib.Omega.{arith}
 use Rattle.session.proofs.Called.{later-done, first-done}
 use Rattle.session.proofs.steps.one_line.Statement.{statement}
 use Rattle.session.proofs.steps.one_line.Tie as tie
-use Rattle.session.proofs.steps.one_line.Reads as reads
-use Rattle.session.proofs.steps.one_line.Lts as lts
-use Rattle.session.proofs.first.first_line.Reads as first-line-reads
-use Rattle.session.proofs.steps.call_line.Reads as call-line-reads
 
 call-line-requires : tie.Need-call-line-requires
 call-line-requires c κs = search needs

@@ -1,12 +1,8 @@
+-- The first line, or a later one, and too long in either case.
 use borrow.Author.Needs.{needs}
-use native.Mathlib.Omega.{arith}
 use Rattle.session.proofs.Called.{later-too-long, first-too-long}
 use Rattle.session.proofs.turn.too_long.Statement.{statement}
 use Rattle.session.proofs.turn.too_long.Tie as tie
-use Rattle.session.proofs.turn.too_long.Reads as reads
-use Rattle.session.proofs.turn.too_long.Lts as lts
-use Rattle.session.proofs.first.first_refused.Reads as first-refused-reads
-use Rattle.session.proofs.steps.malformed.Reads as malformed-reads
 
 malformed-requires : tie.Need-malformed-requires
 malformed-requires c κs = search needs

@@ -1,29 +1,23 @@
+-- By what the reader found: a whole line lies within the input.
 use borrow.Author.Needs.{needs}
-use native.Mathlib.Omega.{arith}
 use Rattle.session.proofs.Turns.{whole-within, turn-whole, turn-too-long, turn-unended, turn-nothing}
 use Rattle.session.proofs.turn.turn_at.Statement.{statement}
 use Rattle.session.proofs.turn.turn_at.Tie as tie
-use Rattle.session.proofs.turn.turn_at.Reads as reads
-use Rattle.session.proofs.turn.turn_at.Lts as lts
-use Rattle.lines.proofs.line_at.Reads as line-at-reads
-use Rattle.session.proofs.steps.malformed.Reads as malformed-reads
-use Rattle.session.proofs.steps.one_line.Reads as one-line-reads
-use Rattle.session.proofs.turn.too_long.Reads as too-long-reads
 
-line-at-requires : tie.Need-line-at-requires
-line-at-requires c κs = search needs
+line-from-requires : tie.Need-line-from-requires
+line-from-requires c κs = search needs
 
 enum-known-line : tie.Need-enum-known-line
 enum-known-line c = search needs
 
 sub-one-line : tie.Need-sub-one-line
-sub-one-line c = whole-within _ _ _ _ _ _ (c .before .before .before .line-at .ensures) (c .before .line .given .1) .0
+sub-one-line c = whole-within _ _ _ _ _ _ (c .before .before .before .line-from .ensures) (c .before .line .given .1) .0
 
 part-one-line-start : tie.Need-part-one-line-start
-part-one-line-start c = let w = whole-within _ _ _ _ _ _ (c .before .before .before .line-at .ensures) (c .before .line .given .1) in search needs
+part-one-line-start c = let w = whole-within _ _ _ _ _ _ (c .before .before .before .line-from .ensures) (c .before .line .given .1) in search needs
 
 part-one-line-end : tie.Need-part-one-line-end
-part-one-line-end c = let w = whole-within _ _ _ _ _ _ (c .before .before .before .line-at .ensures) (c .before .line .given .1) in search needs
+part-one-line-end c = let w = whole-within _ _ _ _ _ _ (c .before .before .before .line-from .ensures) (c .before .line .given .1) in search needs
 
 one-line-requires : tie.Need-one-line-requires
 one-line-requires c κs = search needs
@@ -47,10 +41,10 @@ malformed-requires-2 : tie.Need-malformed-requires-2
 malformed-requires-2 c κs = search needs
 
 returns : tie.Need-returns
-returns c = turn-whole _ _ _ _ (c .before .before .before .before .before .line-at .ensures) _ _ _ _ (c .before .before .before .line .given .1) (c .one-line .ensures)
+returns c = turn-whole _ _ _ _ (c .before .before .before .before .before .line-from .ensures) _ _ _ _ (c .before .before .before .line .given .1) (c .one-line .ensures)
 
 returns-2 : tie.Need-returns-2
-returns-2 c = turn-too-long _ _ _ _ (c .before .before .before .before .line-at .ensures) _ _ (c .before .before .line2 .given .1) (c .too-long .ensures)
+returns-2 c = turn-too-long _ _ _ _ (c .before .before .before .before .line-from .ensures) _ _ (c .before .before .line2 .given .1) (c .too-long .ensures)
 
 returns-3 : tie.Need-returns-3
 returns-3 c = search (turn-unended, needs)
@@ -62,7 +56,7 @@ pub turn-at-spec : {M : Type 1} → statement M
 turn-at-spec =
     tie.close
     (tie.spec
-    line-at-requires
+    line-from-requires
     enum-known-line
     sub-one-line
     part-one-line-start
