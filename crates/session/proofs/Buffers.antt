@@ -13,6 +13,7 @@ use Rattle.frames.specs.Answers.{answerLine, placed}
 use Rattle.frames.proofs.Parts.{answer-length}
 use Rattle.session.specs.declared.Standing.{Standing}
 use Rattle.session.specs.declared.Fed.{Fed}
+use Rattle.session.specs.declared.Held.{Held}
 use Rattle.session.specs.Steps.{malformed}
 use Rattle.session.specs.Run.{onto, cut, stood, ending, kept}
 use Rattle.session.specs.Pieces.{fitting, taken, over, feedTold, pieceAnswers, pieceLeft, pieceTold, endingLength}
@@ -191,3 +192,22 @@ module _ (room : ℕ) (input : List ℕ) (enough : 15 * length input ≤ room) w
   pub left-all : pieceLeft room input ≡ kept (cut input .rest)
   unfolding pieceLeft
   left-all = rw (fitting-all, cut-behind input)
+
+-- ---- how much is held and written, as a caller asks
+
+module _ (s : Standing) (room : ℕ) (input : List ℕ) (p : Held) (e : p ≡ pieceTold s room input) where
+  pub held-small : p .held ≤ 129
+  unfolding pieceTold pieceLeft kept
+  held-small = rw (e, length-take) (omega arith)
+
+  pub written-within : p .written ≤ room
+  unfolding pieceTold fitting
+  written-within = rw (e, length-take) (omega arith)
+
+pub ending-within : (s : Standing) (rest : List ℕ) (room r : ℕ) → r ≡ endingLength s rest room → r ≤ room
+unfolding endingLength
+ending-within s rest room r e = rw e (go (leb (length (ending s rest)) room) refl)
+  where
+    go : (b : Bool) → leb (length (ending s rest)) room ≡ b → endingLength s rest room ≤ room
+    go true h = rw h (leb-true (length (ending s rest)) room h)
+    go false h = rw h (omega arith)
