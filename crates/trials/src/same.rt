@@ -1,17 +1,6 @@
 // Whether two tables are the same in every field.
+use check::same as same_u8;
 use rules::Table;
-
-fn same_u8(a: &[u8], b: &[u8]) -> bool {
-    if a.len() != b.len() {
-        return false;
-    }
-    for i in 0..a.len() {
-        if a[i] != b[i] {
-            return false;
-        }
-    }
-    true
-}
 
 fn same_u16(a: &[u16], b: &[u16]) -> bool {
     if a.len() != b.len() {

@@ -1,8 +1,12 @@
--- Safety alone: the element sent in a turn is below 164.
 use borrow.Author.Needs.{needs}
+use native.Mathlib.Omega.{arith}
 use Prim.Native.Nat.{_-_}
 use Rattle.trials.proofs.scenes.filled.Statement.{statement}
 use Rattle.trials.proofs.scenes.filled.Tie as tie
+use Rattle.trials.proofs.scenes.filled.Reads as reads
+use Rattle.trials.proofs.scenes.filled.Lts as lts
+use Rattle.trials.proofs.scenes.after.Reads as after-reads
+use Rattle.trials.proofs.scenes.largest.Reads as largest-reads
 
 abbrev Inv-loop : tie.InvT-loop
 Inv-loop t₀ i₀ t i = Unit
@@ -16,11 +20,8 @@ largest-requires c κs = search needs
 loop-holds : tie.Need-loop-holds Inv-loop μ-loop
 loop-holds c = search needs
 
-add-send : tie.Need-add-send Inv-loop μ-loop
-add-send c = search needs
-
-send-requires : tie.Need-send-requires Inv-loop μ-loop
-send-requires c κs = search needs
+add-after : tie.Need-add-after Inv-loop μ-loop
+add-after c = search needs
 
 after-requires : tie.Need-after-requires Inv-loop μ-loop
 after-requires c κs = search needs
@@ -45,8 +46,7 @@ filled-spec =
     μ-loop
     largest-requires
     loop-holds
-    add-send
-    send-requires
+    add-after
     after-requires
     add-i
     loop-less
