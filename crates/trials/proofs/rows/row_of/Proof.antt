@@ -1,16 +1,11 @@
+-- Safety alone: a word starts and ends within the text, and there are no more words than bytes.
 use borrow.Author.Needs.{needs}
-use native.Mathlib.Omega.{arith}
 use Prim.Native.Nat.{_≤_, _-_}
 use mathlib.Core.Path.{_≡_}
 use mathlib.Core.Logic.{⊎-elim}
 use lib.ListN.{length}
 use Rattle.trials.proofs.rows.row_of.Statement.{statement}
 use Rattle.trials.proofs.rows.row_of.Tie as tie
-use Rattle.trials.proofs.rows.row_of.Reads as reads
-use Rattle.trials.proofs.rows.row_of.Lts as lts
-use Rattle.trials.proofs.rows.blank.Reads as blank-reads
-use Rattle.trials.proofs.rows.with.Reads as with-reads
-use Rattle.trials.proofs.words.value_of.Reads as value-of-reads
 
 abbrev Inv-loop : tie.InvT-loop
 Inv-loop text r₀ place₀ start₀ i₀ i-end r place start i = (i-end ≡ length text) × (start ≤ i) × (place ≤ i)

@@ -1,12 +1,8 @@
+-- Safety alone: the element sent in a turn is below 164.
 use borrow.Author.Needs.{needs}
-use native.Mathlib.Omega.{arith}
 use Prim.Native.Nat.{_-_}
 use Rattle.trials.proofs.scenes.filled.Statement.{statement}
 use Rattle.trials.proofs.scenes.filled.Tie as tie
-use Rattle.trials.proofs.scenes.filled.Reads as reads
-use Rattle.trials.proofs.scenes.filled.Lts as lts
-use Rattle.trials.proofs.scenes.after.Reads as after-reads
-use Rattle.trials.proofs.scenes.largest.Reads as largest-reads
 
 abbrev Inv-loop : tie.InvT-loop
 Inv-loop t₀ i₀ t i = Unit

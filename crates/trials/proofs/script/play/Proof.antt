@@ -1,15 +1,11 @@
+-- Safety alone: a line starts and ends within the text.
 use borrow.Author.Needs.{needs}
-use native.Mathlib.Omega.{arith}
 use Prim.Native.Nat.{_≤_, _-_}
 use mathlib.Core.Path.{_≡_}
 use mathlib.Core.Logic.{⊎-elim}
 use lib.ListN.{length}
 use Rattle.trials.proofs.script.play.Statement.{statement}
 use Rattle.trials.proofs.script.play.Tie as tie
-use Rattle.trials.proofs.script.play.Reads as reads
-use Rattle.trials.proofs.script.play.Lts as lts
-use Rattle.trials.proofs.scenes.zeros.Reads as zeros-reads
-use Rattle.trials.proofs.script.played.Reads as played-reads
 
 abbrev Inv-loop : tie.InvT-loop
 Inv-loop text t₀ start₀ i₀ i-end t start i = (i-end ≡ length text) × (start ≤ i)

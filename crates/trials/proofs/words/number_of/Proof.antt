@@ -1,12 +1,10 @@
+-- Safety alone: the loop ends at the word's length.
 use borrow.Author.Needs.{needs}
-use native.Mathlib.Omega.{arith}
-use Prim.Native.Nat.{_≤_, _-_}
+use Prim.Native.Nat.{_-_}
 use mathlib.Core.Path.{_≡_}
 use lib.ListN.{length}
 use Rattle.trials.proofs.words.number_of.Statement.{statement}
 use Rattle.trials.proofs.words.number_of.Tie as tie
-use Rattle.trials.proofs.words.number_of.Reads as reads
-use Rattle.trials.proofs.words.number_of.Lts as lts
 
 abbrev Inv-loop : tie.InvT-loop
 Inv-loop word n₀ i₀ i-end n i = i-end ≡ length word

@@ -1,14 +1,11 @@
+-- Safety alone: a name starts and ends within the list, and there are no more names than bytes.
 use borrow.Author.Needs.{needs}
-use native.Mathlib.Omega.{arith}
 use Prim.Native.Nat.{_≤_, _-_}
 use mathlib.Core.Path.{_≡_}
 use mathlib.Core.Logic.{⊎-elim}
 use lib.ListN.{length}
 use Rattle.trials.proofs.words.place_of.Statement.{statement}
 use Rattle.trials.proofs.words.place_of.Tie as tie
-use Rattle.trials.proofs.words.place_of.Reads as reads
-use Rattle.trials.proofs.words.place_of.Lts as lts
-use Rattle.check.proofs.same.Reads as same-reads
 
 abbrev Inv-loop : tie.InvT-loop
 Inv-loop word names place₀ start₀ i₀ i-end place start i = (i-end ≡ length names) × (start ≤ i) × (place ≤ i)
