@@ -1,27 +1,20 @@
-// The executive on document 01's unmarked examples and on bad input: a line for each trial, held to the file `stdout`, whose lines are
-// worked out by hand. docs/TRIALS.md says how each follows from document 01.
-mod calls;
+// The executive on document 01's unmarked examples and on bad input: the file `stdin` lists the trials, a line for each, and the file
+// `stdout` has their answers, worked out by hand. docs/TRIALS.md says how each follows from document 01.
 mod configurations;
 mod damage;
-mod damaged;
-mod examples;
-mod numbers;
-mod operations;
-mod order;
+mod names;
 mod questions;
-mod run;
+mod rows;
 mod same;
 mod say;
 mod scenes;
-mod statuses;
+mod script;
+mod trial;
+mod words;
 
+// The list is read at once, and so can have 65,536 bytes.
 fn main() {
-    examples::all();
-    statuses::all();
-    operations::all();
-    questions::all();
-    order::all();
-    numbers::all();
-    configurations::all();
-    damaged::all();
+    let mut text = io::large_buffer();
+    let n = io::read_full(0, &mut text);
+    script::play(&text[..n]);
 }

@@ -1,58 +1,31 @@
 // Whether two tables are the same in every field.
 use rules::Table;
 
-fn same_u8(a: &[u8], b: &[u8]) -> bool {
-    if a.len() != b.len() {
-        return false;
-    }
-    for i in 0..a.len() {
-        if a[i] != b[i] {
-            return false;
-        }
-    }
-    true
-}
-
-fn same_u16(a: &[u16], b: &[u16]) -> bool {
-    if a.len() != b.len() {
-        return false;
-    }
-    for i in 0..a.len() {
-        if a[i] != b[i] {
-            return false;
-        }
-    }
-    true
-}
-
-fn same_u32(a: &[u32], b: &[u32]) -> bool {
-    if a.len() != b.len() {
-        return false;
-    }
-    for i in 0..a.len() {
-        if a[i] != b[i] {
-            return false;
-        }
-    }
-    true
+// At one number: of a column with fewer entries, at what the number leaves over their count.
+fn same_at(t: Table, u: Table, i: usize) -> bool {
+    let task = i % 32;
+    let region = i % 16;
+    let queue = i % 8;
+    let place = i % 512;
+    (t.priority[task] == u.priority[task])
+        & (t.state[task] == u.state[task])
+        & (t.arrived[task] == u.arrived[task])
+        & (t.list[task] == u.list[task])
+        & (t.operator[task] == u.operator[task])
+        & (t.holder[region] == u.holder[region])
+        & (t.bound[queue] == u.bound[queue])
+        & (t.length[queue] == u.length[queue])
+        & (t.element[place] == u.element[place])
+        & (t.criterion[place] == u.criterion[place])
 }
 
 pub(crate) fn same(t: Table, u: Table) -> bool {
-    let counts = (t.tasks == u.tasks)
+    let mut same = (t.tasks == u.tasks)
         & (t.regions == u.regions)
         & (t.queues == u.queues)
         & (t.elected == u.elected);
-    let priority = same_u8(&t.priority, &u.priority);
-    let state = same_u8(&t.state, &u.state);
-    let arrived = same_u16(&t.arrived, &u.arrived);
-    let list = same_u16(&t.list, &u.list);
-    let operator = same_u8(&t.operator, &u.operator);
-    let holder = same_u8(&t.holder, &u.holder);
-    let bound = same_u8(&t.bound, &u.bound);
-    let length = same_u8(&t.length, &u.length);
-    let element = same_u32(&t.element, &u.element);
-    let criterion = same_u8(&t.criterion, &u.criterion);
-    let columns = priority & state & arrived & list & operator;
-    let stores = holder & bound & length & element & criterion;
-    counts & columns & stores
+    for i in 0..512 {
+        same = same & same_at(t, u, i);
+    }
+    same
 }

@@ -5,13 +5,19 @@ pub(crate) fn word(text: &[u8]) {
     io::write_all(1, text);
 }
 
+// A whole line.
+pub(crate) fn line(text: &[u8]) {
+    word(text);
+    word(b"\n");
+}
+
 // A text, and a number behind it.
-pub(crate) fn number(text: &[u8], n: u32) {
-    io::write_all(1, text);
+fn number(text: &[u8], n: u32) {
+    word(text);
     io::print_decimal(1, n as u64);
 }
 
-// The four numbers of an answer, behind the label.
+// The four numbers of an answer, behind the name.
 pub(crate) fn answer(a: Answer) {
     number(b": status ", a.status as u32);
     number(b" value ", a.value);
@@ -23,9 +29,8 @@ pub(crate) fn answer(a: Answer) {
 pub(crate) fn ending(first: bool, yes: &[u8], no: &[u8]) {
     word(b" ");
     if first {
-        word(yes);
+        line(yes);
     } else {
-        word(no);
+        line(no);
     }
-    word(b"\n");
 }

@@ -1,74 +1,54 @@
-// Tables that trials start from. Each but the table of zeros is reached from a fresh one by calls, so that it is valid.
-use super::calls::ALL;
-use super::calls::OUTSIDE;
-use super::calls::end;
-use super::calls::enter;
-use super::calls::send;
-use super::calls::signal;
-use super::calls::start;
-use super::calls::wait;
+// Tables that trials start from. Each but the last two is reached from a fresh one by calls, so that it is valid.
+use super::names::ALL;
+use super::names::END;
+use super::names::ENTER;
+use super::names::OUTSIDE;
+use super::names::SEND;
+use super::names::SIGNAL;
+use super::names::START;
+use super::names::WAIT;
 use executive::call;
 use executive::fresh;
 use rules::Call;
 use rules::Table;
 
-// A trial names its table and holds none. `Fresh` is the table of document 01's examples, and the others down to `Busy` start
-// from it.
-pub(crate) enum Scene {
-    // Priorities 5, 5, 2, two regions, one queue of bound 2: task 0 is ready and elected.
-    Fresh,
-    // Event 4 of task 0 has arrived.
-    Signalled,
-    // As Signalled, and task 0 holds region 0.
-    Held,
-    // Queue 0 holds (11, 3) and (12, 9), its bound.
-    Full,
-    // Tasks 0 and 1, of equal priority, are ready.
-    Rivals,
-    // Task 0 waits for events 0 and 1, the others are stopped: nobody is elected.
-    Asleep,
-    // Every task is stopped.
-    Ended,
-    // Something of everything: tasks 0 and 1 are ready, task 2 waits for events 0 and 1 and has event 0, task 0 holds region 0, and
-    // queue 0 holds (11, 3).
-    Busy,
-    // As large as a table can be: 32 tasks, of which the last is the most urgent, 16 regions, 8 queues of bound 64.
-    Largest,
-    // Its task 31 is ready, and so elected.
-    Last,
-    // Its queue 7 is at its bound, with elements 100 to 163 of criterion 3.
-    Filled,
-    // The table of zeros.
-    Zeros,
-}
-
 // A call whose answer nobody looks at.
-fn after(t: Table, k: Call) -> Table {
-    let d = call(t, k);
+fn after(t: Table, caller: u8, operation: u8, a: u32, b: u32, c: u32) -> Table {
+    let d = call(
+        t,
+        Call {
+            caller: caller,
+            operation: operation,
+            a: a,
+            b: b,
+            c: c,
+        },
+    );
     d.table
 }
 
+// The table of document 01's examples: priorities 5, 5, 2, two regions, one queue of bound 2.
 fn fresh_one() -> Table {
     let d = fresh(3, 2, 1, &[5, 5, 2], &[2]);
     d.table
 }
 
 fn signalled() -> Table {
-    after(fresh_one(), signal(OUTSIDE, 4, 0))
+    after(fresh_one(), OUTSIDE, SIGNAL, 4, 0, 0)
 }
 
 fn full() -> Table {
-    let t = after(fresh_one(), send(0, 0, 11, 3));
-    after(t, send(0, 0, 12, 9))
+    let t = after(fresh_one(), 0, SEND, 0, 11, 3);
+    after(t, 0, SEND, 0, 12, 9)
 }
 
 fn busy() -> Table {
-    let t = after(fresh_one(), start(0, 2));
-    let t = after(t, wait(2, 3, ALL));
-    let t = after(t, signal(OUTSIDE, 0, 2));
-    let t = after(t, start(0, 1));
-    let t = after(t, enter(0, 0));
-    after(t, send(0, 0, 11, 3))
+    let t = after(fresh_one(), 0, START, 2, 0, 0);
+    let t = after(t, 2, WAIT, 3, ALL, 0);
+    let t = after(t, OUTSIDE, SIGNAL, 0, 2, 0);
+    let t = after(t, 0, START, 1, 0, 0);
+    let t = after(t, 0, ENTER, 0, 0, 0);
+    after(t, 0, SEND, 0, 11, 3)
 }
 
 fn largest() -> Table {
@@ -81,12 +61,12 @@ fn largest() -> Table {
 fn filled() -> Table {
     let mut t = largest();
     for i in 0..64u32 {
-        t = after(t, send(0, 7, 100 + i, 3));
+        t = after(t, 0, SEND, 7, 100 + i, 3);
     }
     t
 }
 
-fn zeros() -> Table {
+pub(crate) fn zeros() -> Table {
     Table {
         tasks: 0,
         regions: 0,
@@ -105,19 +85,43 @@ fn zeros() -> Table {
     }
 }
 
-pub(crate) fn table_of(scene: Scene) -> Table {
+fn wrong() -> Table {
+    let mut t = busy();
+    t.elected = 1;
+    t
+}
+
+// The tables by the places of their names. The last is the table that the line before left.
+pub(crate) fn table_of(scene: u32, before: Table) -> Table {
     match scene {
-        Scene::Fresh => fresh_one(),
-        Scene::Signalled => signalled(),
-        Scene::Held => after(signalled(), enter(0, 0)),
-        Scene::Full => full(),
-        Scene::Rivals => after(fresh_one(), start(0, 1)),
-        Scene::Asleep => after(fresh_one(), wait(0, 3, ALL)),
-        Scene::Ended => after(fresh_one(), end(0)),
-        Scene::Busy => busy(),
-        Scene::Largest => largest(),
-        Scene::Last => after(largest(), start(0, 31)),
-        Scene::Filled => filled(),
-        Scene::Zeros => zeros(),
+        // fresh: task 0 is ready and elected.
+        0 => fresh_one(),
+        // signalled: event 4 of task 0 has arrived.
+        1 => signalled(),
+        // held: as signalled, and task 0 holds region 0.
+        2 => after(signalled(), 0, ENTER, 0, 0, 0),
+        // full: queue 0 holds (11, 3) and (12, 9), its bound.
+        3 => full(),
+        // rivals: tasks 0 and 1, of equal priority, are ready.
+        4 => after(fresh_one(), 0, START, 1, 0, 0),
+        // asleep: task 0 waits for events 0 and 1, the others are stopped: nobody is elected.
+        5 => after(fresh_one(), 0, WAIT, 3, ALL, 0),
+        // ended: every task is stopped.
+        6 => after(fresh_one(), 0, END, 0, 0, 0),
+        // busy: something of everything. Tasks 0 and 1 are ready, task 2 waits for events 0 and 1 and has event 0, task 0 holds
+        // region 0, and queue 0 holds (11, 3).
+        7 => busy(),
+        // largest: 32 tasks, of which the last is the most urgent, 16 regions, 8 queues of bound 64.
+        8 => largest(),
+        // last: as largest, and task 31 is ready, and so elected.
+        9 => after(largest(), 0, START, 31, 0, 0),
+        // filled: as largest, and queue 7 is at its bound, with elements 100 to 163 of criterion 3.
+        10 => filled(),
+        // zeros: not valid.
+        11 => zeros(),
+        // wrong: as busy, but with task 1 as the elected one: not valid.
+        12 => wrong(),
+        // then
+        _ => before,
     }
 }

@@ -16,11 +16,8 @@ largest-requires c κs = search needs
 loop-holds : tie.Need-loop-holds Inv-loop μ-loop
 loop-holds c = search needs
 
-add-send : tie.Need-add-send Inv-loop μ-loop
-add-send c = search needs
-
-send-requires : tie.Need-send-requires Inv-loop μ-loop
-send-requires c κs = search needs
+add-after : tie.Need-add-after Inv-loop μ-loop
+add-after c = search needs
 
 after-requires : tie.Need-after-requires Inv-loop μ-loop
 after-requires c κs = search needs
@@ -45,8 +42,7 @@ filled-spec =
     μ-loop
     largest-requires
     loop-holds
-    add-send
-    send-requires
+    add-after
     after-requires
     add-i
     loop-less

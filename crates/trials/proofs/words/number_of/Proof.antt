@@ -1,19 +1,16 @@
--- Safety alone: the loop ends at the list's length.
+-- Safety alone: the loop ends at the word's length.
 use borrow.Author.Needs.{needs}
 use Prim.Native.Nat.{_-_}
 use mathlib.Core.Path.{_≡_}
 use lib.ListN.{length}
-use Rattle.trials.proofs.run.each.Statement.{statement}
-use Rattle.trials.proofs.run.each.Tie as tie
+use Rattle.trials.proofs.words.number_of.Statement.{statement}
+use Rattle.trials.proofs.words.number_of.Tie as tie
 
 abbrev Inv-loop : tie.InvT-loop
-Inv-loop label k place numbers t i₀ i-end i = i-end ≡ length numbers
+Inv-loop word n₀ i₀ i-end n i = i-end ≡ length word
 
 abbrev μ-loop : tie.MeasureT-loop
-μ-loop label k place numbers t i₀ i-end i = i-end - i
-
-table-of-requires : tie.Need-table-of-requires Inv-loop μ-loop
-table-of-requires c κs = search needs
+μ-loop word n₀ i₀ i-end n i = i-end - i
 
 loop-holds : tie.Need-loop-holds Inv-loop μ-loop
 loop-holds c = search needs
@@ -24,11 +21,11 @@ mul-n c = search needs
 shared-slice-read-n : tie.Need-shared-slice-read-n Inv-loop μ-loop
 shared-slice-read-n c = search needs
 
-with-requires : tie.Need-with-requires Inv-loop μ-loop
-with-requires c κs = search needs
+cast-n : tie.Need-cast-n Inv-loop μ-loop
+cast-n c = search needs
 
-numbered-requires : tie.Need-numbered-requires Inv-loop μ-loop
-numbered-requires c κs = search needs
+add-n : tie.Need-add-n Inv-loop μ-loop
+add-n c = search needs
 
 add-i : tie.Need-add-i Inv-loop μ-loop
 add-i c = search needs
@@ -39,22 +36,25 @@ loop-less c = search needs
 loop-again : tie.Need-loop-again Inv-loop μ-loop
 loop-again c = search needs
 
+cast-result : tie.Need-cast-result Inv-loop μ-loop
+cast-result c = search needs
+
 returns : tie.Need-returns Inv-loop μ-loop
 returns c = search needs
 
-pub each-spec : {M : Type 1} → statement M
-each-spec =
+pub number-of-spec : {M : Type 1} → statement M
+number-of-spec =
     tie.close
     (tie.spec
     Inv-loop
     μ-loop
-    table-of-requires
     loop-holds
     mul-n
     shared-slice-read-n
-    with-requires
-    numbered-requires
+    cast-n
+    add-n
     add-i
     loop-less
     loop-again
+    cast-result
     returns)
