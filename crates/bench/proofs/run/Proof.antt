@@ -1,14 +1,9 @@
 use borrow.Author.Needs.{needs}
-use native.Mathlib.Omega.{arith}
 use Prim.Native.Nat.{_≤_}
 use mathlib.Core.Path.{_≡_}
 use lib.ListN.{length}
 use Rattle.bench.proofs.run.Statement.{statement}
 use Rattle.bench.proofs.run.Tie as tie
-use Rattle.bench.proofs.run.Reads as reads
-use Rattle.bench.proofs.run.Lts as lts
-use Rattle.bench.proofs.turn_of.Reads as turn-of-reads
-use Rattle.session.proofs.start.Reads as start-reads
 
 abbrev Inv-loop : tie.InvT-loop
 Inv-loop buffer₀ out₀ s₀ held₀ turns₀ buffer out s held turns = (held ≤ 129) × (length buffer ≡ length buffer₀) × (length out ≡ length out₀)

@@ -1,15 +1,7 @@
 use borrow.Author.Needs.{needs}
-use native.Mathlib.Omega.{arith}
 use Rattle.session.proofs.Buffers.{held-small, written-within, ending-within}
 use Rattle.bench.proofs.turn_of.Statement.{statement}
 use Rattle.bench.proofs.turn_of.Tie as tie
-use Rattle.bench.proofs.turn_of.Reads as reads
-use Rattle.bench.proofs.turn_of.Lts as lts
-use Rattle.io.proofs.count.Reads as count-reads
-use Rattle.io.proofs.write_all.Reads as write-all-reads
-use Rattle.libc.proofs.read.Reads as read-reads
-use Rattle.session.proofs.finish.Reads as finish-reads
-use Rattle.session.proofs.piece.Reads as piece-reads
 
 sub-read : tie.Need-sub-read
 sub-read c = search needs
