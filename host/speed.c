@@ -1,5 +1,5 @@
-/* Measures what a mixed call costs and what its validity check alone costs, and prints both, their ratio and the mix.
-   Processor time is taken, not time on the clock: other programs then disturb the figures less. */
+/* Measures what a mixed call costs, what drawing it costs and what its validity check alone costs, and prints these, how many checks a
+   call costs, and the mix. Processor time is taken, not time on the clock: other programs then disturb the figures less. */
 #include <stdint.h>
 #include <stdio.h>
 #include <stdlib.h>
@@ -7,13 +7,16 @@
 
 /* The proved library; crates/workload says what each function returns. */
 uint64_t tankwesho_mixed_calls(uint32_t seed, uint32_t calls);
+uint64_t tankwesho_mixed_draws(uint32_t seed, uint32_t calls);
 uint64_t tankwesho_mixed_checks(uint32_t seed, uint32_t calls, uint32_t checks);
 uint64_t tankwesho_mixed_count(uint32_t seed, uint32_t calls, uint8_t operation, uint8_t status);
 
-/* Several seeds, since a check's cost depends on the table. The tables checked are those half way through the calls. */
-enum { SEEDS = 16, CALLS = 40000, CHECKS = 100000, REPEATS = 15, MOST_REPEATS = 1000 };
+/* A million calls and a million checks. Several seeds, since a check's cost depends on the table. The tables checked are those half way
+   through the calls. */
+enum { SEEDS = 25, CALLS = 40000, CHECKS = 40000, REPEATS = 15, MOST_REPEATS = 1000 };
 
 static uint64_t answers;
+static uint64_t drawn;
 static uint64_t valid;
 
 static double nanoseconds(clock_t from, clock_t to)
@@ -27,6 +30,15 @@ static double time_calls(void)
     answers = 0;
     for (uint32_t seed = 1; seed <= SEEDS; seed++)
         answers = answers * 31 + tankwesho_mixed_calls(seed, CALLS);
+    return nanoseconds(from, clock());
+}
+
+static double time_draws(void)
+{
+    clock_t from = clock();
+    drawn = 0;
+    for (uint32_t seed = 1; seed <= SEEDS; seed++)
+        drawn = drawn * 31 + tankwesho_mixed_draws(seed, CALLS);
     return nanoseconds(from, clock());
 }
 
@@ -53,27 +65,37 @@ static double median(double *values, int n)
     return n % 2 ? values[n / 2] : (values[n / 2 - 1] + values[n / 2]) / 2;
 }
 
+static void print_row(const char *what, double least, double median)
+{
+    printf("%-32s %8.1f %8.1f\n", what, least, median);
+}
+
 /* The calls that lead to the tables are timed alone, as `way`, and taken off. */
 static void print_costs(int repeats)
 {
-    static double calls[MOST_REPEATS], way[MOST_REPEATS], checks[MOST_REPEATS];
-    double call[2], check[2];
+    static double calls[MOST_REPEATS], draws[MOST_REPEATS], way[MOST_REPEATS], checks[MOST_REPEATS];
+    double call[2], draw[2], check[2];
     for (int i = 0; i < repeats; i++) {
         calls[i] = time_calls();
+        draws[i] = time_draws();
         way[i] = time_checks(0);
         checks[i] = time_checks(CHECKS);
     }
     call[1] = median(calls, repeats) / SEEDS / CALLS;
+    draw[1] = median(draws, repeats) / SEEDS / CALLS;
     check[1] = (median(checks, repeats) - median(way, repeats)) / SEEDS / CHECKS;
     call[0] = calls[0] / SEEDS / CALLS;
+    draw[0] = draws[0] / SEEDS / CALLS;
     check[0] = (checks[0] - way[0]) / SEEDS / CHECKS;
     printf("%d repeats, each %d runs of %d calls and %d tables checked %d times\n\n", repeats, SEEDS, CALLS, SEEDS, CHECKS);
-    printf("%-22s %8s %8s\n", "", "least", "median");
-    printf("%-22s %8.2f %8.2f\n", "call / check", call[0] / check[0], call[1] / check[1]);
-    printf("%-22s %8.1f %8.1f\n", "nanoseconds a call", call[0], call[1]);
-    printf("%-22s %8.1f %8.1f\n", "nanoseconds a check", check[0], check[1]);
-    printf("\nvalid %llu of %llu; checksum %llx\n", (unsigned long long)valid, (unsigned long long)SEEDS * CHECKS,
-           (unsigned long long)answers);
+    printf("%-32s %8s %8s\n", "", "least", "median");
+    printf("%-32s %8.2f %8.2f\n", "(call - drawing) / check", (call[0] - draw[0]) / check[0], (call[1] - draw[1]) / check[1]);
+    printf("%-32s %8.2f %8.2f\n", "call with its drawing / check", call[0] / check[0], call[1] / check[1]);
+    print_row("nanoseconds a call, drawn, noted", call[0], call[1]);
+    print_row("nanoseconds to draw and note one", draw[0], draw[1]);
+    print_row("nanoseconds a check", check[0], check[1]);
+    printf("\nvalid %llu of %llu; checksums %llx, %llx\n", (unsigned long long)valid, (unsigned long long)SEEDS * CHECKS,
+           (unsigned long long)answers, (unsigned long long)drawn);
 }
 
 static void print_mix(void)
