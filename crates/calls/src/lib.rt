@@ -22,7 +22,7 @@ ghost use mathlib.Core.Path.{_≡_};
 ghost use Rattle.rules.specs.Step.{step};
 
 // The table stays in this one function from the first look to the last store, and has one way out of it: each pass of it to another
-// function may copy it, and so may each further end. Nobody is elected afresh where no state and no holder changes.
+// function may copy it, and so may each further end. Nobody is elected afresh where a task keeps its state, or after SEND and RETRIEVE.
 pub fn call(mut t: Table, k: Call) -> Done
     ensures { λ r. ⌜ r ≡ step t k ⌝ }
 {

@@ -1,5 +1,6 @@
 -- By the kind of the call: what the other kind could meet does not apply, so the first that applies is the list's.
 use borrow.Author.Needs.{needs}
+use native.Mathlib.Omega.{arith}
 use mathlib.Core.Path.{sym, _∙_}
 use Rattle.refusals.proofs.Flags.{late-missing, late-queue, late-task}
 use Rattle.refusals.proofs.refusal.late_of.Statement.{statement}
@@ -15,13 +16,13 @@ queue-reason-of-requires : tie.Need-queue-reason-of-requires
 queue-reason-of-requires c κs = search needs
 
 returns-2 : tie.Need-returns-2
-returns-2 c = late-queue _ _ _ _ _ _ _ _ _ (sym (c .before .before .before .before .missing-of .ensures) ∙ c .before .before .before .if1 .left) (c .before .if2 .taken) _ (c .queue-reason-of .ensures)
+returns-2 c = late-queue _ _ _ _ _ _ _ _ _ (sym (c .before .before .before .before .missing-of .ensures) ∙ c .before .before .before .if1 .left) (omega (arith, c .before .if2 .taken)) _ (c .queue-reason-of .ensures)
 
 task-reason-of-requires : tie.Need-task-reason-of-requires
 task-reason-of-requires c κs = search needs
 
 returns-3 : tie.Need-returns-3
-returns-3 c = late-task _ _ _ _ _ _ _ _ _ (sym (c .before .before .before .before .missing-of .ensures) ∙ c .before .before .before .if1 .left) (c .before .if2 .left) _ (c .task-reason-of .ensures)
+returns-3 c = late-task _ _ _ _ _ _ _ _ _ (sym (c .before .before .before .before .missing-of .ensures) ∙ c .before .before .before .if1 .left) (omega (arith, c .before .if2 .left)) _ (c .task-reason-of .ensures)
 
 pub late-of-spec : {M : Type 1} → statement M
 late-of-spec =
