@@ -1,4 +1,4 @@
--- A loop over generated calls follows the definition of a run.
+-- A loop over generated calls follows the definition of a run and of its count, and one that only draws them that of draws.
 use Prim.Native.Nat.{ℕ, _+_, _≤_}
 use mathlib.Core.Path.{_≡_, refl, sym, ap, _∙_}
 use native.Mathlib.Numerals.{add-one}
@@ -12,7 +12,6 @@ use Rattle.rules.specs.declared.Answer.{Answer}
 use Rattle.rules.specs.declared.Done.{Done}
 use Rattle.rules.specs.Step.{step}
 use Rattle.workload.specs.Draw.{next, taskOf, callOf}
-use Rattle.workload.specs.declared.calls.Ran.{Ran}
 use Rattle.workload.specs.Run.{Run, at, first, noted, turn, run}
 use Rattle.workload.specs.Counts.{times, counted, ran}
 use Rattle.workload.specs.Draws.{Drawn, having, echo, pass, draws}
