@@ -1,5 +1,5 @@
-/* Measures what a mixed call costs and what its validity check alone costs, and prints both, their ratio and the mix.
-   Processor time is taken, not time on the clock: other programs then disturb the figures less. */
+/* Measures what a mixed call costs, what drawing it costs and what its validity check alone costs, and prints these, how many checks a
+   call costs, and the mix. Processor time is taken, not time on the clock: other programs then disturb the figures less. */
 #include <stdint.h>
 #include <stdio.h>
 #include <stdlib.h>
@@ -7,36 +7,43 @@
 
 /* The proved library; crates/workload says what each function returns. */
 uint64_t tankwesho_mixed_calls(uint32_t seed, uint32_t calls);
+uint64_t tankwesho_mixed_draws(uint32_t seed, uint32_t calls);
 uint64_t tankwesho_mixed_checks(uint32_t seed, uint32_t calls, uint32_t checks);
 uint64_t tankwesho_mixed_count(uint32_t seed, uint32_t calls, uint8_t operation, uint8_t status);
 
-/* Several seeds, since a check's cost depends on the table. The tables checked are those half way through the calls. */
-enum { SEEDS = 16, CALLS = 40000, CHECKS = 100000, REPEATS = 15, MOST_REPEATS = 1000 };
+/* A million calls. Several seeds, since a check's cost depends on the table. The tables checked are those half way through the calls. */
+enum { SEEDS = 25, CALLS = 40000, CHECKS = 40000, REPEATS = 15, MOST_REPEATS = 1000 };
 
-static uint64_t answers;
-static uint64_t valid;
+/* What a repeat times for each seed: calls made, calls drawn and not made, the calls that lead to the table, and these with the checks. */
+enum { CALLING, DRAWING, LEADING, CHECKING, KINDS };
 
-static double nanoseconds(clock_t from, clock_t to)
+static double times[KINDS][SEEDS][MOST_REPEATS];
+static uint64_t sums[KINDS];
+
+static uint64_t work(int kind, uint32_t seed)
 {
-    return (double)(to - from) * 1e9 / CLOCKS_PER_SEC;
+    switch (kind) {
+    case CALLING:
+        return tankwesho_mixed_calls(seed, CALLS);
+    case DRAWING:
+        return tankwesho_mixed_draws(seed, CALLS);
+    case LEADING:
+        return tankwesho_mixed_checks(seed, CALLS / 2, 0);
+    default:
+        return tankwesho_mixed_checks(seed, CALLS / 2, CHECKS);
+    }
 }
 
-static double time_calls(void)
+static void time_all(int repeat)
 {
-    clock_t from = clock();
-    answers = 0;
-    for (uint32_t seed = 1; seed <= SEEDS; seed++)
-        answers = answers * 31 + tankwesho_mixed_calls(seed, CALLS);
-    return nanoseconds(from, clock());
-}
-
-static double time_checks(uint32_t checks)
-{
-    clock_t from = clock();
-    valid = 0;
-    for (uint32_t seed = 1; seed <= SEEDS; seed++)
-        valid += tankwesho_mixed_checks(seed, CALLS / 2, checks);
-    return nanoseconds(from, clock());
+    for (int kind = 0; kind < KINDS; kind++)
+        sums[kind] = 0;
+    for (uint32_t seed = 0; seed < SEEDS; seed++)
+        for (int kind = 0; kind < KINDS; kind++) {
+            clock_t from = clock();
+            sums[kind] += work(kind, seed + 1);
+            times[kind][seed][repeat] = (double)(clock() - from) * 1e9 / CLOCKS_PER_SEC;
+        }
 }
 
 static int by_size(const void *a, const void *b)
@@ -46,34 +53,42 @@ static int by_size(const void *a, const void *b)
     return (x > y) - (x < y);
 }
 
-/* Leaves the values in order, the least first. */
-static double median(double *values, int n)
+/* The sum over the seeds of what is least, or in the middle, among a seed's repeats: a repeat of one seed is short, so that some are
+   undisturbed. */
+static double total(int kind, int repeats, int place)
 {
-    qsort(values, (size_t)n, sizeof *values, by_size);
-    return n % 2 ? values[n / 2] : (values[n / 2 - 1] + values[n / 2]) / 2;
+    double sum = 0;
+    for (int seed = 0; seed < SEEDS; seed++) {
+        qsort(times[kind][seed], (size_t)repeats, sizeof(double), by_size);
+        sum += times[kind][seed][place];
+    }
+    return sum;
 }
 
-/* The calls that lead to the tables are timed alone, as `way`, and taken off. */
 static void print_costs(int repeats)
 {
-    static double calls[MOST_REPEATS], way[MOST_REPEATS], checks[MOST_REPEATS];
-    double call[2], check[2];
-    for (int i = 0; i < repeats; i++) {
-        calls[i] = time_calls();
-        way[i] = time_checks(0);
-        checks[i] = time_checks(CHECKS);
+    static const char *const rows[] = {"(call - drawing) / check", "call with its drawing / check", "nanoseconds a call, drawn, noted",
+                                       "nanoseconds to draw and note one", "nanoseconds a check"};
+    double found[5][2];
+    for (int i = 0; i < repeats; i++)
+        time_all(i);
+    for (int i = 0; i < 2; i++) {
+        int place = i ? repeats / 2 : 0;
+        double call = total(CALLING, repeats, place) / SEEDS / CALLS;
+        double draw = total(DRAWING, repeats, place) / SEEDS / CALLS;
+        double check = (total(CHECKING, repeats, place) - total(LEADING, repeats, place)) / SEEDS / CHECKS;
+        found[0][i] = (call - draw) / check;
+        found[1][i] = call / check;
+        found[2][i] = call;
+        found[3][i] = draw;
+        found[4][i] = check;
     }
-    call[1] = median(calls, repeats) / SEEDS / CALLS;
-    check[1] = (median(checks, repeats) - median(way, repeats)) / SEEDS / CHECKS;
-    call[0] = calls[0] / SEEDS / CALLS;
-    check[0] = (checks[0] - way[0]) / SEEDS / CHECKS;
     printf("%d repeats, each %d runs of %d calls and %d tables checked %d times\n\n", repeats, SEEDS, CALLS, SEEDS, CHECKS);
-    printf("%-22s %8s %8s\n", "", "least", "median");
-    printf("%-22s %8.2f %8.2f\n", "call / check", call[0] / check[0], call[1] / check[1]);
-    printf("%-22s %8.1f %8.1f\n", "nanoseconds a call", call[0], call[1]);
-    printf("%-22s %8.1f %8.1f\n", "nanoseconds a check", check[0], check[1]);
-    printf("\nvalid %llu of %llu; checksum %llx\n", (unsigned long long)valid, (unsigned long long)SEEDS * CHECKS,
-           (unsigned long long)answers);
+    printf("%-32s %8s %8s\n", "", "least", "median");
+    for (int row = 0; row < 5; row++)
+        printf(row < 2 ? "%-32s %8.2f %8.2f\n" : "%-32s %8.1f %8.1f\n", rows[row], found[row][0], found[row][1]);
+    printf("\nvalid %llu of %llu; checksums %llx, %llx\n", (unsigned long long)sums[CHECKING], (unsigned long long)SEEDS * CHECKS,
+           (unsigned long long)sums[CALLING], (unsigned long long)sums[DRAWING]);
 }
 
 static void print_mix(void)

@@ -1,9 +1,9 @@
 -- The record that the code builds for each kind of call is the step of the rules.
-use Prim.Native.Nat.{ℕ, _+_, _-_, _%_, _<_, _≤_}
+use Prim.Native.Nat.{ℕ, zero, suc, _+_, _-_, _%_, _<_, _≤_}
 use mathlib.Core.Path.{_≡_, refl, sym, ap, ap₂, _∙_}
 use mathlib.Core.Logic.{_≢_}
 use mathlib.Core.Bool.{Bool, true, false, cond, not, _&&_, _||_}
-use mathlib.Core.List.{List}
+use mathlib.Core.List.{List, [], _∷_}
 use native.Mathlib.Omega.{arith}
 use native.Mathlib.Nat.{mod-eq-of-lt}
 use lib.Dec.{eqb, ltb}
@@ -53,16 +53,28 @@ waits-or-not u true = refl
 waits-or-not u false = refl
 
 -- what the code answers where only the queues' arrays change
-abbrev pub stored : Table → List ℕ → List ℕ → List ℕ → ℕ → ℕ → ℕ → Done
-stored t lengths es cs value key who =
+abbrev pub stored : Table → List ℕ → List ℕ → List ℕ → ℕ → ℕ → ℕ → ℕ → Done
+stored t lengths es cs status value key who =
     record {
       table = withElected who (withStores lengths es cs t);
-      answer = record { status = 0; value = value; key = key; elected = who };
+      answer = record { status = status; value = value; key = key; elected = who };
     }
+
+-- an entry stored again where it stands
+set-own : (xs : List ℕ) (i : ℕ) → set xs i (getD xs i 0) ≡ xs
+set-own [] i = refl
+set-own (x ∷ xs) zero = refl
+set-own (x ∷ xs) (suc i) = ap (λ ys. x ∷ ys) (set-own xs i)
 
 module _ (t : Table) (c : Call) (z : refusal t c ≡ 0) where
   facts : Accepted t c
   facts = accepted-facts t c z
+
+  parts : Parts t
+  parts = parts-of t (facts .is-valid)
+
+  elected-same : electionOf t ≡ t .elected
+  elected-same = sym (parts .elected)
 
   -- START, STOP, END, SIGNAL, WAIT, CLEAR
   at-target : c .operation < 6 → (after : Task) (m : Bool) (v who waits : ℕ)
@@ -82,22 +94,27 @@ module _ (t : Table) (c : Call) (z : refusal t c ≡ 0) where
   task-done h i is after m v who waits p q r s w =
       rw is (at-target h after m v who waits (rw is at p) (rw is at q) r (rw is at s) w)
 
+  -- the same where the task keeps its state: nobody is elected afresh
+  pub task-kept : c .operation < 6 → (i : ℕ) → i ≡ target c → (after : Task) (m : Bool) (who waits : ℕ)
+      → after ≡ taskAfter c (taskOf t i) → m ≡ met (c .b % 256) (c .a % 65536) (taskOf t i .arrived)
+      → after .state ≡ getD (t .state) i 0 → who ≡ t .elected
+      → waits ≡ cond (eqb (c .operation) WAIT && not m) 1 0
+      → record { table = withTask i after t; answer = record { status = waits; value = 0; key = 0; elected = who } } ≡ step t c
+  task-kept h i is after m who waits p q same own w =
+      let states : set (t .state) i (after .state) ≡ t .state = ap (set (t .state) i) same ∙ set-own (t .state) i in
+      let elects : t .elected ≡ electedBy (held (t .holder)) (set (t .state) i (after .state)) (t .priority) = sym elected-same ∙ sym (rw states (election-by _ _ _)) in
+      rw own (task-done h i is after m (held (t .holder)) (t .elected) waits p q refl elects w)
+
   -- ENTER and EXIT
-  pub region-done : 5 < c .operation → c .operation < 8 → (entry v who : ℕ) → entry ≡ holderAfter c (getD (t .holder) (c .a) 0)
-      → v ≡ held (set (t .holder) (c .a) entry) → who ≡ electedBy v (t .state) (t .priority)
-      → record { table = withElected who (withHolders (set (t .holder) (c .a) entry) t); answer = record { status = 0; value = 0; key = 0; elected = who } }
+  pub region-done : 5 < c .operation → c .operation < 8 → (entry v who status : ℕ) → entry ≡ holderAfter c (getD (t .holder) (c .a) 0)
+      → v ≡ held (set (t .holder) (c .a) entry) → who ≡ electedBy v (t .state) (t .priority) → status ≡ 0
+      → record { table = withElected who (withHolders (set (t .holder) (c .a) entry) t); answer = record { status = status; value = 0; key = 0; elected = who } }
       ≡ step t c
-  region-done l h entry v who p q r =
+  region-done l h entry v who status p q r none =
       let elects : who ≡ electionOf (withHolders (set (t .holder) (c .a) (holderAfter c (getD (t .holder) (c .a) 0))) t) = r ∙ rw (q, p) (election-by _ _ _) in
-      rw (elects, p) (sym (accepted-is t c z ∙ ap accepted (region-effect t c facts l h)))
+      rw (none, elects, p) (sym (accepted-is t c z ∙ ap accepted (region-effect t c facts l h)))
 
   -- ---- SEND and RETRIEVE: nobody is elected again, since neither tasks nor holders change
-
-  parts : Parts t
-  parts = parts-of t (facts .is-valid)
-
-  elected-same : electionOf t ≡ t .elected
-  elected-same = sym (parts .elected)
 
   module _ (e : c .operation ≡ SEND) where
     here : c .a < t .queues
@@ -127,12 +144,16 @@ module _ (t : Table) (c : Call) (z : refusal t c ≡ 0) where
     unfolding effect
     sent = rw e (ap plain (sent-stored t (c .a) queue (c .b) (c .c) free))
 
-    pub send-done : stored t (set (t .length) (c .a) (lengthOf t (c .a) + 1)) (set (t .element) (firstPlace (c .a) + lengthOf t (c .a)) (c .b))
-        (set (t .criterion) (firstPlace (c .a) + lengthOf t (c .a)) (c .c % 256)) 0 0 (t .elected)
+    pub send-done : (status who : ℕ) → status ≡ 0 → who ≡ t .elected
+        → record {
+          table = withStores (set (t .length) (c .a) (lengthOf t (c .a) + 1)) (set (t .element) (firstPlace (c .a) + lengthOf t (c .a)) (c .b))
+              (set (t .criterion) (firstPlace (c .a) + lengthOf t (c .a)) (c .c % 256)) t;
+          answer = record { status = status; value = 0; key = 0; elected = who };
+        }
         ≡ step t c
-    send-done =
-        rw criterion-fits
-        (sym (accepted-is t c z ∙ ap accepted sent ∙ ap (stored t _ _ _ 0 0) elected-same))
+    send-done status who none own =
+        rw (none, own, criterion-fits)
+        (sym (accepted-is t c z ∙ ap accepted sent ∙ ap (stored t _ _ _ 0 0 0) elected-same))
 
   module _ (e : c .operation ≡ RETRIEVE) where
     held-there : c .a < t .queues
@@ -164,13 +185,18 @@ module _ (t : Table) (c : Call) (z : refusal t c ≡ 0) where
           rw e
           (ap₂ effect-of (taken-is t (c .a) from-queue within-store (c .c) at is found) (given-is t (c .a) from-queue within-store (c .c) at is found))
 
-      pub retrieve-done : (value key : ℕ) (es cs : List ℕ) → value ≡ getD (t .element) at 0 → key ≡ getD (t .criterion) at 0
+      pub retrieve-done : (value key status who : ℕ) (es cs : List ℕ) → value ≡ getD (t .element) at 0 → key ≡ getD (t .criterion) at 0
           → es ≡ closedIn at (firstPlace (c .a) + lengthOf t (c .a)) (t .element)
           → cs ≡ closedIn at (firstPlace (c .a) + lengthOf t (c .a)) (t .criterion)
-          → stored t (set (t .length) (c .a) (lengthOf t (c .a) - 1)) es cs value key (t .elected) ≡ step t c
+          → status ≡ 0 → who ≡ t .elected
+          → record {
+            table = withStores (set (t .length) (c .a) (lengthOf t (c .a) - 1)) es cs t;
+            answer = record { status = status; value = value; key = key; elected = who };
+          }
+          ≡ step t c
       unfolding effect-of
-      retrieve-done value key es cs q r s w =
-          rw (q, r, s, w) (sym (accepted-is t c z ∙ ap accepted taken ∙ ap (stored t _ _ _ _ _) elected-same))
+      retrieve-done value key status who es cs q r s w none own =
+          rw (none, own, q, r, s, w) (sym (accepted-is t c z ∙ ap accepted taken ∙ ap (stored t _ _ _ 0 _ _) elected-same))
 
 -- a call that is neither of the first eight nor SEND is RETRIEVE
 pub retrieve-is : (t : Table) (c : Call) → refusal t c ≡ 0 → 8 ≤ c .operation → (c .operation ≡ SEND → ⊥) → c .operation ≡ RETRIEVE

@@ -1,3 +1,2 @@
 -- The definitions that this crate's inner contracts cite beside those of the rules.
-pub mod Answers
 pub mod Effects

@@ -1,8 +1,6 @@
 // One call: refused with the first reason that applies, or done and the elected task found afresh.
-mod answer;
 mod effect;
 
-use answer::answered;
 use effect::holder_after;
 use effect::target_of;
 use effect::task_after;
@@ -12,6 +10,7 @@ use queues::place_of;
 use refusals::pick;
 use refusals::refusal_of;
 use refusals::reported_by;
+use rules::Answer;
 use rules::Call;
 use rules::Done;
 use rules::Table;
@@ -22,8 +21,8 @@ use tasks::met_by;
 ghost use mathlib.Core.Path.{_≡_};
 ghost use Rattle.rules.specs.Step.{step};
 
-// The table stays in this one function from the first look to the last store, since each pass of it to another function may copy it.
-// Only `answered`, which is compiled into this function, takes it.
+// The table stays in this one function from the first look to the last store, and has one way out of it: each pass of it to another
+// function may copy it, and so may each further end. Nobody is elected afresh where a task keeps its state, or after SEND and RETRIEVE.
 pub fn call(mut t: Table, k: Call) -> Done
     ensures { λ r. ⌜ r ≡ step t k ⌝ }
 {
@@ -44,54 +43,66 @@ pub fn call(mut t: Table, k: Call) -> Done
         &t.criterion,
         k,
     );
-    if status != 0 {
-        let who = reported_by(status, t.elected);
-        return answered(t, status, 0, 0, who);
+    let mut said = status;
+    let mut value: u32 = 0;
+    let mut key: u8 = 0;
+    let mut who = reported_by(status, t.elected);
+    if status == 0 {
+        let operation = k.operation;
+        if operation < 6 {
+            let i = target_of(k) as usize;
+            let r = Task {
+                state: t.state[i],
+                arrived: t.arrived[i],
+                list: t.list[i],
+                operator: t.operator[i],
+            };
+            let met = met_by((k.b % 256) as u8, (k.a % 65536) as u16, r.arrived);
+            let after = task_after(k, r);
+            said = pick((operation == 4) & !met, 1, 0);
+            t.state[i] = after.state;
+            t.arrived[i] = after.arrived;
+            t.list[i] = after.list;
+            t.operator[i] = after.operator;
+            if after.state != r.state {
+                let v = held_by(&t.holder);
+                let next = elected_by(v, &t.state, &t.priority);
+                t.elected = next;
+                who = next;
+            }
+        } else {
+            let at = k.a as usize;
+            if operation < 8 {
+                t.holder[at] = holder_after(k, t.holder[at]);
+                let v = held_by(&t.holder);
+                who = elected_by(v, &t.state, &t.priority);
+                t.elected = who;
+            } else {
+                let n = t.length[at];
+                let from = at * 64;
+                let end = from + (n as usize);
+                if operation == 8 {
+                    t.element[end] = k.b;
+                    t.criterion[end] = (k.c % 256) as u8;
+                    t.length[at] = n + 1;
+                } else {
+                    let place = place_of(&t.criterion, from, end, k.c);
+                    value = t.element[place];
+                    key = t.criterion[place];
+                    close_elements(&mut t.element, place, end);
+                    close_criteria(&mut t.criterion, place, end);
+                    t.length[at] = n - 1;
+                }
+            }
+        }
     }
-    let operation = k.operation;
-    if operation < 6 {
-        let i = target_of(k) as usize;
-        let r = Task {
-            state: t.state[i],
-            arrived: t.arrived[i],
-            list: t.list[i],
-            operator: t.operator[i],
-        };
-        let met = met_by((k.b % 256) as u8, (k.a % 65536) as u16, r.arrived);
-        let after = task_after(k, r);
-        t.state[i] = after.state;
-        t.arrived[i] = after.arrived;
-        t.list[i] = after.list;
-        t.operator[i] = after.operator;
-        let v = held_by(&t.holder);
-        let next = elected_by(v, &t.state, &t.priority);
-        t.elected = next;
-        let waits = pick((operation == 4) & !met, 1, 0);
-        return answered(t, waits, 0, 0, next);
+    Done {
+        table: t,
+        answer: Answer {
+            status: said,
+            value: value,
+            key: key,
+            elected: who,
+        },
     }
-    let at = k.a as usize;
-    if operation < 8 {
-        t.holder[at] = holder_after(k, t.holder[at]);
-        let v = held_by(&t.holder);
-        let who = elected_by(v, &t.state, &t.priority);
-        t.elected = who;
-        return answered(t, 0, 0, 0, who);
-    }
-    let n = t.length[at];
-    let from = at * 64;
-    let end = from + (n as usize);
-    let who = t.elected;
-    if operation == 8 {
-        t.element[end] = k.b;
-        t.criterion[end] = (k.c % 256) as u8;
-        t.length[at] = n + 1;
-        return answered(t, 0, 0, 0, who);
-    }
-    let place = place_of(&t.criterion, from, end, k.c);
-    let value = t.element[place];
-    let key = t.criterion[place];
-    close_elements(&mut t.element, place, end);
-    close_criteria(&mut t.criterion, place, end);
-    t.length[at] = n - 1;
-    answered(t, 0, value, key, who)
 }

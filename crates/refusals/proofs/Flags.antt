@@ -10,7 +10,10 @@ use lib.ListN.{getD, length, List·getD-eq-default}
 use borrow.Author.Tests.{ne-eqb}
 use Rattle.rules.specs.declared.Call.{Call}
 use Rattle.rules.specs.Words.{byOperation}
-use Rattle.rules.specs.Refusals.{wrongState, missing}
+use Rattle.rules.specs.Numbers.{WAIT, SEND, RETRIEVE}
+use Rattle.rules.specs.Words.{first}
+use Rattle.rules.specs.Refusals.{wrongState, leaves, missing}
+use Rattle.refusals.specs.Late.{lacking, taskFlags, queueFlags, lateFlags}
 
 -- a number past the named ones is none of them
 none-of : (n k : ℕ) → k < n → eqb n k ≡ false
@@ -52,6 +55,35 @@ missing-past tasks regions queues c h = rw List·getD-eq-default
 
 pub past-end : (l : List ℕ) (i : ℕ) → length l ≤ i → 0 ≡ getD l i 0
 past-end l i h = sym (List·getD-eq-default l 0 h)
+
+-- ---- the reasons from 14 on, by the kind of the call
+
+wrong-past : (states : List ℕ) (c : Call) → 7 < c .operation → wrongState states c ≡ false
+unfolding wrongState
+wrong-past states c h = let past : 4 ≤ c .operation = omega arith in rw List·getD-eq-default
+
+leaves-past : (c : Call) → 7 < c .operation → leaves c ≡ false
+unfolding leaves
+leaves-past c h = let past : 5 ≤ c .operation = omega arith in rw List·getD-eq-default
+
+lacking-below : (lengths criterion : List ℕ) (c : Call) → c .operation ≤ 7 → lacking lengths criterion c ≡ false
+unfolding lacking
+lacking-below lengths criterion c h = rw (ne-eqb (c .operation) RETRIEVE (omega arith))
+
+module _ (tasks regions queues : ℕ) (state holder bound lengths criterion : List ℕ) (c : Call) where
+  pub late-missing : missing tasks regions queues c ≡ true → 14 ≡ first (lateFlags tasks regions queues state holder bound lengths criterion c)
+  unfolding lateFlags
+  late-missing m = rw m refl
+
+  pub late-queue : missing tasks regions queues c ≡ false → 7 < c .operation → (r : ℕ) → r ≡ first (queueFlags bound lengths criterion c)
+      → r ≡ first (lateFlags tasks regions queues state holder bound lengths criterion c)
+  unfolding lateFlags queueFlags
+  late-queue m h r p = rw (m, ne-eqb (c .operation) WAIT (omega arith), wrong-past state c h, leaves-past c h) p
+
+  pub late-task : missing tasks regions queues c ≡ false → c .operation ≤ 7 → (r : ℕ) → r ≡ first (taskFlags state holder c)
+      → r ≡ first (lateFlags tasks regions queues state holder bound lengths criterion c)
+  unfolding lateFlags taskFlags
+  late-task m h r p = rw (m, ne-eqb (c .operation) SEND (omega arith), lacking-below lengths criterion c h) p
 
 -- ---- a match that names the first n numbers has left them all out
 

@@ -19,6 +19,21 @@ lacking lengths criterion c =
     (placeIn (c .a * places) (c .a * places + getD lengths (c .a) 0) (c .c) criterion))
     false
 
+-- those of a call about tasks or regions, once 14 is ruled out
+unfoldable pub taskFlags : List ℕ → List ℕ → Call → List Reason
+taskFlags state holder c =
+    when 19 (eqb (c .operation) WAIT && badOperator (c .b))
+    ∷ when 15 (wrongState state c)
+    ∷ when 16 (leaves c && not (isZero (held holder)))
+    ∷ []
+
+-- those of SEND and RETRIEVE
+unfoldable pub queueFlags : List ℕ → List ℕ → List ℕ → Call → List Reason
+queueFlags bound lengths criterion c =
+    when 17 (eqb (c .operation) SEND && leb (getD bound (c .a) 0) (getD lengths (c .a) 0))
+    ∷ when 18 (lacking lengths criterion c)
+    ∷ []
+
 unfoldable pub lateFlags : ℕ → ℕ → ℕ → List ℕ → List ℕ → List ℕ → List ℕ → List ℕ → Call → List Reason
 lateFlags tasks regions queues state holder bound lengths criterion c =
     when 14 (missing tasks regions queues c)

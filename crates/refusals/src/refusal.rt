@@ -9,10 +9,11 @@ ghost use mathlib.Core.Bool.{not, _&&_};
 ghost use mathlib.Core.List.{[], _∷_};
 ghost use lib.Dec.{eqb, ltb, leb};
 ghost use lib.ListN.{length, getD};
-ghost use Rattle.rules.specs.Words.{when, first};
+ghost use Rattle.rules.specs.Words.{isZero, when, first};
+ghost use Rattle.rules.specs.Regions.{held};
 ghost use Rattle.rules.specs.Refusals.{outsideBarred, notElected, missing, wrongState, leaves, refusal};
 ghost use Rattle.refusals.specs.Lent.{lent};
-ghost use Rattle.refusals.specs.Late.{lacking, lateFlags};
+ghost use Rattle.refusals.specs.Late.{lacking, taskFlags, queueFlags, lateFlags};
 
 // 10, 11, 13 and 12: what is refused before the call's numbers are looked at; 0 where none applies.
 fn early_of(ok: bool, elected: u8, k: Call) -> u8
@@ -111,7 +112,46 @@ fn lacking_of<'a>(lengths: &'a [u8; 8], criterion: &'a [u8; 512], k: Call) -> bo
     false
 }
 
-// The reasons from 14 on. The table is valid here, so that a queue that exists has its places in the store.
+// 16: WAIT, END or STOP of oneself while a region is occupied. No other call looks at the regions.
+fn inside_of(holder: &[u8; 16], k: Call) -> bool
+    requires { ⌜ length (now holder) ≡ 16 ⌝ }
+    ensures { λ r. ⌜ r ≡ (leaves k && not (isZero (held (now (holder .entry))))) ⌝ }
+{
+    if leaves_of(k) {
+        return held_by(holder) != 0;
+    }
+    false
+}
+
+// 19, 15 and 16: what is left to ask of a call that is about tasks or regions.
+fn task_reason_of<'a>(state: &'a [u8; 32], holder: &'a [u8; 16], k: Call) -> u8
+    requires { ⌜ length (now state) ≡ 32 ⌝ }
+    requires { ⌜ length (now holder) ≡ 16 ⌝ }
+    ensures { λ r. ⌜ r ≡ first (taskFlags (now (state .entry)) (now (holder .entry)) k) ⌝ }
+{
+    let r16 = pick(inside_of(holder, k), 16, 0);
+    let r15 = pick(wrong_state_of(state, k), 15, r16);
+    pick((k.operation == 4) & (1 < k.b), 19, r15)
+}
+
+// 17 and 18: what is left to ask of SEND and RETRIEVE.
+fn queue_reason_of<'a>(
+    bound: &'a [u8; 8],
+    lengths: &'a [u8; 8],
+    criterion: &'a [u8; 512],
+    k: Call,
+) -> u8
+    requires { ⌜ length (now bound) ≡ 8 ⌝ }
+    requires { ⌜ length (now lengths) ≡ 8 ⌝ }
+    requires { ⌜ length (now criterion) ≡ 512 ⌝ }
+    ensures { λ r. ⌜ r ≡ first (queueFlags (now (bound .entry)) (now (lengths .entry)) (now (criterion .entry)) k) ⌝ }
+{
+    let r18 = pick(lacking_of(lengths, criterion, k), 18, 0);
+    pick(full_of(bound, lengths, k), 17, r18)
+}
+
+// The reasons from 14 on, and only those that the operation can meet. The table is valid here, so that a queue that exists has its
+// places in the store.
 fn late_of<'a>(
     tasks: u8,
     regions: u8,
@@ -130,13 +170,13 @@ fn late_of<'a>(
     requires { ⌜ length (now criterion) ≡ 512 ⌝ }
     ensures { λ r. ⌜ r ≡ first (lateFlags tasks regions queues (now (state .entry)) (now (holder .entry)) (now (bound .entry)) (now (lengths .entry)) (now (criterion .entry)) k) ⌝ }
 {
-    let r18 = pick(lacking_of(lengths, criterion, k), 18, 0);
-    let r17 = pick(full_of(bound, lengths, k), 17, r18);
-    let inside = held_by(holder) != 0;
-    let r16 = pick(leaves_of(k) & inside, 16, r17);
-    let r15 = pick(wrong_state_of(state, k), 15, r16);
-    let r19 = pick((k.operation == 4) & (1 < k.b), 19, r15);
-    pick(missing_of(tasks, regions, queues, k), 14, r19)
+    if missing_of(tasks, regions, queues, k) {
+        return 14;
+    }
+    if 7 < k.operation {
+        return queue_reason_of(bound, lengths, criterion, k);
+    }
+    task_reason_of(state, holder, k)
 }
 
 // The first reason that applies, 0 where none does.

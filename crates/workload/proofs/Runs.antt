@@ -1,4 +1,4 @@
--- A loop over generated calls follows the definition of a run.
+-- A loop over generated calls follows the definition of a run and of its count, and one that only draws them that of draws.
 use Prim.Native.Nat.{ℕ, _+_, _≤_}
 use mathlib.Core.Path.{_≡_, refl, sym, ap, _∙_}
 use native.Mathlib.Numerals.{add-one}
@@ -8,12 +8,13 @@ use lib.Dec.{eqb}
 use lib.ListN.{getD}
 use Rattle.rules.specs.declared.Table.{Table}
 use Rattle.rules.specs.declared.Call.{Call}
+use Rattle.rules.specs.declared.Answer.{Answer}
 use Rattle.rules.specs.declared.Done.{Done}
 use Rattle.rules.specs.Step.{step}
 use Rattle.workload.specs.Draw.{next, taskOf, callOf}
-use Rattle.workload.specs.declared.calls.Run.{Run}
-use Rattle.workload.specs.Run.{at, noted, turn, run}
-use Rattle.workload.specs.Counts.{times}
+use Rattle.workload.specs.Run.{Run, at, first, noted, turn, run}
+use Rattle.workload.specs.Counts.{times, counted, ran}
+use Rattle.workload.specs.Draws.{Drawn, having, echo, pass, draws}
 
 -- one call more
 pub run-again : (seed i : ℕ) (t : Table) (x sum task state : ℕ) (k : Call) (d : Done) (sum1 x1 : ℕ)
@@ -42,12 +43,27 @@ unfolding times
 count-again o s seed i t x sum task state k d n n1 before here p q r e one = rw (add-one, ← here, one, before, e, r, q, p) refl
 
 -- the loop's end
-pub run-end : (seed calls i : ℕ) (r : Run) → r ≡ run seed i → i ≤ calls → calls ≤ i → r ≡ run seed calls
-run-end seed calls i r here below above =
+pub run-end : (o s seed calls i n : ℕ) (r : Run) → n ≡ times o s seed i → r ≡ run seed i → i ≤ calls → calls ≤ i
+    → counted r n ≡ ran o s seed calls
+run-end o s seed calls i n r here p below above =
     let same : i ≡ calls = omega arith in
-    here ∙ ap (run seed) same
+    rw (p, here, same) refl
 
-pub count-end : (o s seed calls i n : ℕ) → n ≡ times o s seed i → i ≤ calls → calls ≤ i → n ≡ times o s seed calls
-count-end o s seed calls i n here below above =
+-- one call drawn more
+pub draw-again : (seed i : ℕ) (t : Table) (x sum task state : ℕ) (k : Call) (r : Answer) (sum1 x1 : ℕ)
+    → t ≡ first
+    → having x sum ≡ draws seed i
+    → task ≡ taskOf x
+    → state ≡ getD (t .state) task 0
+    → k ≡ callOf x (t .elected) state
+    → r ≡ echo k
+    → sum1 ≡ noted sum r
+    → x1 ≡ next x
+    → having x1 sum1 ≡ draws seed (i + 1)
+unfolding draws pass
+draw-again seed i t x sum task state k r sum1 x1 fresh here p q e s u v = rw (add-one, ← here, u, v, s, e, q, p, fresh) refl
+
+pub draw-end : (seed calls i x sum : ℕ) → having x sum ≡ draws seed i → i ≤ calls → calls ≤ i → sum ≡ draws seed calls .sum
+draw-end seed calls i x sum here below above =
     let same : i ≡ calls = omega arith in
-    here ∙ ap (times o s seed) same
+    ap (λ (d : Drawn). d .sum) here ∙ ap (λ (j : ℕ). draws seed j .sum) same

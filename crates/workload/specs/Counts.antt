@@ -3,8 +3,8 @@ use Prim.Native.Nat.{ℕ, zero, suc, _+_}
 use mathlib.Core.Bool.{Bool, cond, _&&_}
 use lib.Dec.{eqb}
 use Rattle.rules.specs.Step.{step}
-use Rattle.workload.specs.declared.calls.Run.{Run}
-use Rattle.workload.specs.Run.{callIn, run}
+use Rattle.workload.specs.declared.calls.Ran.{Ran}
+use Rattle.workload.specs.Run.{Run, callIn, run}
 
 -- whether the next call of a run is of this operation and gets this status
 abbrev pub counts : ℕ → ℕ → Run → Bool
@@ -15,3 +15,10 @@ counts operation status r =
 unfoldable pub times : ℕ → ℕ → ℕ → ℕ → ℕ
 times operation status seed zero = 0
 times operation status seed (suc n) = times operation status seed n + cond (counts operation status (run seed n)) 1 0
+
+-- a run and its count, as the code has them
+abbrev pub counted : Run → ℕ → Ran
+counted r n = record { table = r .table; draw = r .draw; sum = r .sum; times = n }
+
+abbrev pub ran : ℕ → ℕ → ℕ → ℕ → Ran
+ran operation status seed calls = counted (run seed calls) (times operation status seed calls)

@@ -1,5 +1,6 @@
--- The definitions that this crate's contracts cite: the generated calls, a run of them, checks of a table, and counts.
+-- The definitions that this crate's contracts cite: the generated calls, a run of them, checks of a table, counts, and draws alone.
 pub mod Draw
 pub mod Run
 pub mod Checks
 pub mod Counts
+pub mod Draws

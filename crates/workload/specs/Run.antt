@@ -8,7 +8,6 @@ use Rattle.rules.specs.declared.Answer.{Answer}
 use Rattle.rules.specs.declared.Done.{Done}
 use Rattle.rules.specs.Fresh.{fresh}
 use Rattle.rules.specs.Step.{step}
-use Rattle.workload.specs.declared.calls.Run.{Run}
 use Rattle.workload.specs.Draw.{seeded, next, taskOf, callOf}
 
 -- the letters F M D K B I P G N E L C J A H O, twice
@@ -29,6 +28,11 @@ unfoldable pub noted : ℕ → Answer → ℕ
 noted sum r = (sum * 31 + r .value + (r .status * 65536 + r .key * 256 + r .elected)) % 4294967291
 
 -- where a run stands: the table, the number drawn for the next call, the checksum
+pub record Run : Type 0 where
+  pub table : Table
+  pub draw : ℕ
+  pub sum : ℕ
+
 abbrev pub at : Table → ℕ → ℕ → Run
 at t x sum = record { table = t; draw = x; sum = sum }
 

@@ -3,12 +3,14 @@ use crate::draw::call_of;
 use crate::draw::next_of;
 use crate::draw::seeded_by;
 use crate::draw::task_of;
+use crate::tally::counted;
 use executive::call;
 use executive::fresh;
 use rules::Answer;
 use rules::Table;
 ghost use mathlib.Core.Path.{_≡_};
 ghost use Rattle.workload.specs.Run.{first, noted, run};
+ghost use Rattle.workload.specs.Counts.{ran};
 
 // 32 tasks, 16 regions and 8 queues of 64. A priority is a letter, A the most urgent, and two tasks share each.
 pub(crate) fn first_table() -> Table
@@ -28,32 +30,38 @@ pub(crate) fn noted_by(sum: u32, r: Answer) -> u32
     (((sum as u64) * 31 + (r.value as u64) + part) % 4294967291) as u32
 }
 
-// Where a run stands: the table, the number drawn for the next call, and the checksum.
-pub(crate) struct Run {
+// Where a run stands: the table, the number drawn for the next call, the checksum, and how many calls have been counted.
+pub(crate) struct Ran {
     pub(crate) table: Table,
     pub(crate) draw: u32,
     pub(crate) sum: u32,
+    pub(crate) times: u32,
 }
 
-// `calls` generated calls from a fresh table.
-pub(crate) fn run_of(seed: u32, calls: u32) -> Run
-    ensures { λ r. ⌜ r ≡ run seed calls ⌝ }
+// `calls` generated calls from a fresh table, and how many of them are of this operation and get this status. All runs go through this one
+// loop: `call` is then called from one place, and the compiler can put it there.
+pub(crate) fn run_of(seed: u32, calls: u32, operation: u8, status: u8) -> Ran
+    ensures { λ r. ⌜ r ≡ ran operation status seed calls ⌝ }
 {
     let mut t = first_table();
     let mut x = seeded_by(seed);
     let mut sum: u32 = 0;
+    let mut n: u32 = 0;
     for i in 0..calls {
         let task = task_of(x) as usize;
         let k = call_of(x, t.elected, t.state[task]);
         let d = call(t, k);
         t = d.table;
-        sum = noted_by(sum, d.answer);
+        let r = d.answer;
+        n = counted(n, i, (k.operation == operation) & (r.status == status));
+        sum = noted_by(sum, r);
         x = next_of(x);
     }
-    Run {
+    Ran {
         table: t,
         draw: x,
         sum: sum,
+        times: n,
     }
 }
 
@@ -62,6 +70,6 @@ pub(crate) fn run_of(seed: u32, calls: u32) -> Run
 pub extern "C" fn tankwesho_mixed_calls(seed: u32, calls: u32) -> u64
     ensures { λ r. ⌜ r ≡ run seed calls .sum ⌝ }
 {
-    let r = run_of(seed, calls);
+    let r = run_of(seed, calls, 0, 0);
     r.sum as u64
 }

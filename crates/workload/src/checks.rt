@@ -42,6 +42,6 @@ fn checks_of(mut t: Table, mut x: u32, checks: u32) -> u32
 pub extern "C" fn tankwesho_mixed_checks(seed: u32, calls: u32, checks: u32) -> u64
     ensures { λ r. ⌜ r ≡ validTimes seed calls checks ⌝ }
 {
-    let r = run_of(seed, calls);
+    let r = run_of(seed, calls, 0, 0);
     checks_of(r.table, r.draw, checks) as u64
 }

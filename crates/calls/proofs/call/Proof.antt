@@ -13,39 +13,43 @@ use Rattle.rules.proofs.Refusals.{Accepted, accepted-facts}
 use Rattle.refusals.specs.Lent.{Lengths}
 use Rattle.calls.specs.Effects.{target}
 use Rattle.calls.proofs.Accepted.{target-below, tasks-fit, region-there, regions-fit, caller-below}
-use Rattle.calls.proofs.Done.{Fits, refused-done, task-done, region-done, free, send-done, found, retrieve-done, retrieve-is, retrieve-some, queue-fits}
+use Rattle.calls.proofs.Done.{Fits, refused-done, task-done, task-kept, region-done, free, send-done, found, retrieve-done, retrieve-is, retrieve-some, queue-fits}
 use Rattle.calls.proofs.call.Statement.{statement}
 use Rattle.calls.proofs.call.Tie as tie
 
 long : (c : tie.Start) → Lengths (c .args .t1 .priority) (c .args .t1 .state) (c .args .t1 .arrived) (c .args .t1 .list) (c .args .t1 .operator) (c .args .t1 .holder) (c .args .t1 .bound) (c .args .t1 .length) (c .args .t1 .element) (c .args .t1 .criterion)
 long c = search needs
 
-abbrev table : tie.Else1 → Table
-table c = c .before .before .before .before .before .before .before .before .before .before .before .before .before .args .t1
+abbrev table : tie.Then1 → Table
+table c = c .before .before .before .before .before .before .before .before .before .before .before .before .before .before .args .t1
 
-abbrev call : tie.Else1 → Call
-call c = c .before .before .before .before .before .before .before .before .before .before .before .before .before .args .k
+abbrev call : tie.Then1 → Call
+call c = c .before .before .before .before .before .before .before .before .before .before .before .before .before .before .args .k
 
 -- nothing is refused from here on
-zero : (c : tie.Else1) → refusal (table c) (call c) ≡ 0
-zero c = sym (c .before .refusal-of .ensures) ∙ c .if1 .left
+zero : (c : tie.Then1) → refusal (table c) (call c) ≡ 0
+zero c = sym (c .before .before .refusal-of .ensures) ∙ c .if1 .taken
 
-facts : (c : tie.Else1) → Accepted (table c) (call c)
+-- the elected task that is reported unless another is elected
+own : (c : tie.Then1) → c .before .reported-by .result ≡ table c .elected
+own c = c .before .reported-by .ensures ∙ rw (c .if1 .taken) refl
+
+facts : (c : tie.Then1) → Accepted (table c) (call c)
 facts c = accepted-facts (table c) (call c) (zero c)
 
-task-there : (c : tie.Else1) → call c .operation < 6 → target (call c) < 32
+task-there : (c : tie.Then1) → call c .operation < 6 → target (call c) < 32
 task-there c h = omega (arith, target-below (table c) (call c) (facts c) h, tasks-fit (table c) (call c) (facts c))
 
-region-small : (c : tie.Else1) → 6 ≤ call c .operation → call c .operation < 8 → call c .a < 16
+region-small : (c : tie.Then1) → 6 ≤ call c .operation → call c .operation < 8 → call c .a < 16
 region-small c l h = omega (arith, region-there (table c) (call c) (facts c) l h, regions-fit (table c) (call c) (facts c))
 
-caller-small : (c : tie.Else1) → 6 ≤ call c .operation → call c .caller < 255
+caller-small : (c : tie.Then1) → 6 ≤ call c .operation → call c .caller < 255
 caller-small c l = omega (arith, caller-below (table c) (call c) (facts c) (omega arith), tasks-fit (table c) (call c) (facts c))
 
-queue-there : (c : tie.Else1) → 8 ≤ call c .operation → Fits (table c) (call c)
+queue-there : (c : tie.Then1) → 8 ≤ call c .operation → Fits (table c) (call c)
 queue-there c l = queue-fits (table c) (call c) (zero c) l
 
-is-retrieve : (c : tie.Else1) → 8 ≤ call c .operation → (call c .operation ≡ SEND → ⊥) → call c .operation ≡ RETRIEVE
+is-retrieve : (c : tie.Then1) → 8 ≤ call c .operation → (call c .operation ≡ SEND → ⊥) → call c .operation ≡ RETRIEVE
 is-retrieve c l n = retrieve-is (table c) (call c) (zero c) l n
 
 refusal-of-requires : tie.Need-refusal-of-requires
@@ -54,26 +58,20 @@ refusal-of-requires c κs = let l = long (c .before .before .before .before .bef
 reported-by-requires : tie.Need-reported-by-requires
 reported-by-requires c κs = search needs
 
-answered-requires : tie.Need-answered-requires
-answered-requires c κs = search needs
-
-returns : tie.Need-returns
-returns c = c .answered .ensures ∙ refused-done _ _ _ _ (c .before .before .before .refusal-of .ensures) (c .before .before .if1 .taken) (c .before .reported-by .ensures)
-
 target-of-requires : tie.Need-target-of-requires
 target-of-requires c κs = search needs
 
 cast-i : tie.Need-cast-i
 cast-i c = search needs
 
-element-copy-out-t44 : tie.Need-element-copy-out-t44
-element-copy-out-t44 c = omega (arith, c .target-of .ensures, task-there (c .before .before) (c .before .if2 .taken))
+element-copy-out-t41 : tie.Need-element-copy-out-t41
+element-copy-out-t41 c = omega (arith, c .target-of .ensures, task-there (c .before .before) (c .before .if2 .taken))
 
-mul-t45 : tie.Need-mul-t45
-mul-t45 c = search needs
+mul-t42 : tie.Need-mul-t42
+mul-t42 c = search needs
 
-element-copy-out-t48 : tie.Need-element-copy-out-t48
-element-copy-out-t48 c = omega (arith, c .before .target-of .ensures, task-there (c .before .before .before) (c .before .before .if2 .taken))
+element-copy-out-t45 : tie.Need-element-copy-out-t45
+element-copy-out-t45 c = omega (arith, c .before .target-of .ensures, task-there (c .before .before .before) (c .before .before .if2 .taken))
 
 mul-met-by : tie.Need-mul-met-by
 mul-met-by c = search needs
@@ -96,128 +94,122 @@ met-by-requires c κs = search needs
 task-after-requires : tie.Need-task-after-requires
 task-after-requires c κs = search needs
 
+pick-requires : tie.Need-pick-requires
+pick-requires c κs = search needs
+
 element-write-t : tie.Need-element-write-t
-element-write-t c = omega (arith, c .before .before .before .before .before .before .before .before .target-of .ensures, task-there (c .before .before .before .before .before .before .before .before .before .before) (c .before .before .before .before .before .before .before .before .before .if2 .taken))
+element-write-t c = omega (arith, c .before .before .before .before .before .before .before .before .before .target-of .ensures, task-there (c .before .before .before .before .before .before .before .before .before .before .before) (c .before .before .before .before .before .before .before .before .before .before .if2 .taken))
 
 mul-t : tie.Need-mul-t
 mul-t c = search needs
 
 element-write-t-2 : tie.Need-element-write-t-2
-element-write-t-2 c = omega (arith, c .before .before .before .before .before .before .before .before .target-of .ensures, task-there (c .before .before .before .before .before .before .before .before .before .before) (c .before .before .before .before .before .before .before .before .before .if2 .taken))
+element-write-t-2 c = omega (arith, c .before .before .before .before .before .before .before .before .before .target-of .ensures, task-there (c .before .before .before .before .before .before .before .before .before .before .before) (c .before .before .before .before .before .before .before .before .before .before .if2 .taken))
 
 mul-t-2 : tie.Need-mul-t-2
 mul-t-2 c = search needs
 
 element-write-t-3 : tie.Need-element-write-t-3
-element-write-t-3 c = omega (arith, c .before .before .before .before .before .before .before .before .target-of .ensures, task-there (c .before .before .before .before .before .before .before .before .before .before) (c .before .before .before .before .before .before .before .before .before .if2 .taken))
+element-write-t-3 c = omega (arith, c .before .before .before .before .before .before .before .before .before .target-of .ensures, task-there (c .before .before .before .before .before .before .before .before .before .before .before) (c .before .before .before .before .before .before .before .before .before .before .if2 .taken))
 
 element-write-t-4 : tie.Need-element-write-t-4
-element-write-t-4 c = omega (arith, c .before .before .before .before .before .before .before .before .target-of .ensures, task-there (c .before .before .before .before .before .before .before .before .before .before) (c .before .before .before .before .before .before .before .before .before .if2 .taken))
+element-write-t-4 c = omega (arith, c .before .before .before .before .before .before .before .before .before .target-of .ensures, task-there (c .before .before .before .before .before .before .before .before .before .before .before) (c .before .before .before .before .before .before .before .before .before .before .if2 .taken))
 
 held-by-requires : tie.Need-held-by-requires
-held-by-requires c κs = long (c .before .before .before .before .before .before .before .before .before .before .before .before .before .before .before .before .before .before .before .before .before .before .before .before .before) .holder-long
+held-by-requires c κs = long (c .before .before .before .before .before .before .before .before .before .before .before .before .before .before .before .before .before .before .before .before .before .before .before .before .before .before .before .before .before .before) .holder-long
 
 elected-by-requires : tie.Need-elected-by-requires
-elected-by-requires c κs = (rw length-set (long (c .before .before .before .before .before .before .before .before .before .before .before .before .before .before .before .before .before .before .before .before .before .before .before .before .before .before .before .before .before) .state-long), long (c .before .before .before .before .before .before .before .before .before .before .before .before .before .before .before .before .before .before .before .before .before .before .before .before .before .before .before .before .before) .priority-long)
-
-pick-requires : tie.Need-pick-requires
-pick-requires c κs = search needs
-
-answered-requires-2 : tie.Need-answered-requires-2
-answered-requires-2 c κs = search needs
-
-returns-2 : tie.Need-returns-2
-returns-2 c = c .answered2 .ensures ∙ task-done _ _ (zero (c .before .before .before .before .before .before .before .before .before .before .before .before .before .before .before .before .before .before .before)) (c .before .before .before .before .before .before .before .before .before .before .before .before .before .before .before .before .before .before .if2 .taken) _ (c .before .before .before .before .before .before .before .before .before .before .before .before .before .before .before .before .before .target-of .ensures) _ _ _ _ _ (c .before .before .before .before .before .before .before .before .before .task-after .ensures) (c .before .before .before .before .before .before .before .before .before .before .met-by .ensures) (c .before .before .before .before .before .before .held-by .ensures) (c .before .before .elected-by .ensures) (c .before .pick .ensures)
+elected-by-requires c κs = (rw length-set (long (c .before .before .before .before .before .before .before .before .before .before .before .before .before .before .before .before .before .before .before .before .before .before .before .before .before .before .before .before .before .before .before .before .before .before) .state-long), long (c .before .before .before .before .before .before .before .before .before .before .before .before .before .before .before .before .before .before .before .before .before .before .before .before .before .before .before .before .before .before .before .before .before .before) .priority-long)
 
 cast-at : tie.Need-cast-at
 cast-at c = search needs
 
 element-copy-out-holder-after : tie.Need-element-copy-out-holder-after
-element-copy-out-holder-after c = region-small (c .before .before .before) (c .before .before .if2 .left) (c .if3 .taken)
+element-copy-out-holder-after c = region-small (c .before .before .before) (c .before .before .if2 .left) (c .if4 .taken)
 
 holder-after-requires : tie.Need-holder-after-requires
 holder-after-requires c κs = caller-small (c .before .before .before .before) (c .before .before .before .if2 .left)
 
 element-write-t-5 : tie.Need-element-write-t-5
-element-write-t-5 c = region-small (c .before .before .before .before .before) (c .before .before .before .before .if2 .left) (c .before .before .if3 .taken)
+element-write-t-5 c = region-small (c .before .before .before .before .before) (c .before .before .before .before .if2 .left) (c .before .before .if4 .taken)
 
 held-by-requires-2 : tie.Need-held-by-requires-2
-held-by-requires-2 c κs = rw length-set (long (c .before .before .before .before .before .before .before .before .before .before .before .before .before .before .before .before .before .before .before .before) .holder-long)
+held-by-requires-2 c κs = rw length-set (long (c .before .before .before .before .before .before .before .before .before .before .before .before .before .before .before .before .before .before .before .before .before) .holder-long)
 
 elected-by-requires-2 : tie.Need-elected-by-requires-2
-elected-by-requires-2 c κs = (long (c .before .before .before .before .before .before .before .before .before .before .before .before .before .before .before .before .before .before .before .before .before .before .before .before) .state-long, long (c .before .before .before .before .before .before .before .before .before .before .before .before .before .before .before .before .before .before .before .before .before .before .before .before) .priority-long)
-
-answered-requires-3 : tie.Need-answered-requires-3
-answered-requires-3 c κs = search needs
-
-returns-3 : tie.Need-returns-3
-returns-3 c = c .answered3 .ensures ∙ region-done _ _ (zero (c .before .before .before .before .before .before .before .before .before .before .before .before .before)) (c .before .before .before .before .before .before .before .before .before .before .before .before .if2 .left) (c .before .before .before .before .before .before .before .before .before .before .if3 .taken) _ _ _ (c .before .before .before .before .before .before .before .before .holder-after .ensures) (c .before .before .before .before .before .held-by2 .ensures) (c .before .elected-by2 .ensures)
+elected-by-requires-2 c κs = (long (c .before .before .before .before .before .before .before .before .before .before .before .before .before .before .before .before .before .before .before .before .before .before .before .before .before) .state-long, long (c .before .before .before .before .before .before .before .before .before .before .before .before .before .before .before .before .before .before .before .before .before .before .before .before .before) .priority-long)
 
 element-copy-out-n : tie.Need-element-copy-out-n
-element-copy-out-n c = queue-there (c .before .before .before) (c .if3 .left) .queue-small
+element-copy-out-n c = queue-there (c .before .before .before) (c .if4 .left) .queue-small
 
 mul-from : tie.Need-mul-from
 mul-from c = search needs
 
 cast-end : tie.Need-cast-end
-cast-end c = let f = queue-there (c .before .before .before .before) (c .before .if3 .left) in omega arith
+cast-end c = let f = queue-there (c .before .before .before .before) (c .before .if4 .left) in omega arith
 
 add-end : tie.Need-add-end
-add-end c = let f = queue-there (c .before .before .before .before) (c .before .if3 .left) in omega arith
+add-end c = let f = queue-there (c .before .before .before .before) (c .before .if4 .left) in omega arith
 
 mul-t-3 : tie.Need-mul-t-3
-mul-t-3 c = let f = queue-there (c .before .before .before .before .before) (c .before .before .if3 .left) in omega arith
+mul-t-3 c = let f = queue-there (c .before .before .before .before .before) (c .before .before .if4 .left) in omega arith
 
 element-write-t-6 : tie.Need-element-write-t-6
-element-write-t-6 c = let f = queue-there (c .before .before .before .before .before) (c .before .before .if3 .left) in omega (arith, free _ _ (zero (c .before .before .before .before .before)) (c .if4 .taken))
+element-write-t-6 c = let f = queue-there (c .before .before .before .before .before) (c .before .before .if4 .left) in omega (arith, free _ _ (zero (c .before .before .before .before .before)) (c .if5 .taken))
 
 cast-t : tie.Need-cast-t
 cast-t c = search needs
 
 element-write-t-7 : tie.Need-element-write-t-7
-element-write-t-7 c = let f = queue-there (c .before .before .before .before .before .before) (c .before .before .before .if3 .left) in omega (arith, free _ _ (zero (c .before .before .before .before .before .before)) (c .before .if4 .taken))
+element-write-t-7 c = let f = queue-there (c .before .before .before .before .before .before) (c .before .before .before .if4 .left) in omega (arith, free _ _ (zero (c .before .before .before .before .before .before)) (c .before .if5 .taken))
 
 add-t : tie.Need-add-t
-add-t c = let f = queue-there (c .before .before .before .before .before .before) (c .before .before .before .if3 .left) in omega arith
+add-t c = let f = queue-there (c .before .before .before .before .before .before) (c .before .before .before .if4 .left) in omega arith
 
 element-write-t-8 : tie.Need-element-write-t-8
-element-write-t-8 c = queue-there (c .before .before .before .before .before .before) (c .before .before .before .if3 .left) .queue-small
-
-answered-requires-4 : tie.Need-answered-requires-4
-answered-requires-4 c κs = search needs
-
-returns-4 : tie.Need-returns-4
-returns-4 c = c .answered4 .ensures ∙ send-done _ _ (zero (c .before .before .before .before .before .before .before)) (c .before .before .if4 .taken)
+element-write-t-8 c = queue-there (c .before .before .before .before .before .before) (c .before .before .before .if4 .left) .queue-small
 
 place-of-requires : tie.Need-place-of-requires
-place-of-requires c κs = long (c .before .before .before .before .before .before .before .before .before .before .before .before .before .before .before .before .before .before .before .before) .criterion-long
+place-of-requires c κs = long (c .before .before .before .before .before .before .before .before .before .before .before .before .before .before .before .before .before .before .before .before .before) .criterion-long
 
 mul-value : tie.Need-mul-value
-mul-value c = let f = queue-there (c .before .before .before .before .before .before .before .before) (c .before .before .before .before .before .if3 .left) in omega (arith, found _ _ (zero (c .before .before .before .before .before .before .before .before)) (is-retrieve (c .before .before .before .before .before .before .before .before) (c .before .before .before .before .before .if3 .left) (c .before .before .before .if4 .left)) _ (c .place-of .ensures))
+mul-value c = let f = queue-there (c .before .before .before .before .before .before .before .before) (c .before .before .before .before .before .if4 .left) in omega (arith, found _ _ (zero (c .before .before .before .before .before .before .before .before)) (is-retrieve (c .before .before .before .before .before .before .before .before) (c .before .before .before .before .before .if4 .left) (c .before .before .before .if5 .left)) _ (c .place-of .ensures))
 
 element-copy-out-value : tie.Need-element-copy-out-value
-element-copy-out-value c = let f = queue-there (c .before .before .before .before .before .before .before .before) (c .before .before .before .before .before .if3 .left) in omega (arith, found _ _ (zero (c .before .before .before .before .before .before .before .before)) (is-retrieve (c .before .before .before .before .before .before .before .before) (c .before .before .before .before .before .if3 .left) (c .before .before .before .if4 .left)) _ (c .place-of .ensures))
+element-copy-out-value c = let f = queue-there (c .before .before .before .before .before .before .before .before) (c .before .before .before .before .before .if4 .left) in omega (arith, found _ _ (zero (c .before .before .before .before .before .before .before .before)) (is-retrieve (c .before .before .before .before .before .before .before .before) (c .before .before .before .before .before .if4 .left) (c .before .before .before .if5 .left)) _ (c .place-of .ensures))
 
 element-copy-out-key : tie.Need-element-copy-out-key
-element-copy-out-key c = let f = queue-there (c .before .before .before .before .before .before .before .before .before) (c .before .before .before .before .before .before .if3 .left) in omega (arith, found _ _ (zero (c .before .before .before .before .before .before .before .before .before)) (is-retrieve (c .before .before .before .before .before .before .before .before .before) (c .before .before .before .before .before .before .if3 .left) (c .before .before .before .before .if4 .left)) _ (c .before .place-of .ensures))
+element-copy-out-key c = let f = queue-there (c .before .before .before .before .before .before .before .before .before) (c .before .before .before .before .before .before .if4 .left) in omega (arith, found _ _ (zero (c .before .before .before .before .before .before .before .before .before)) (is-retrieve (c .before .before .before .before .before .before .before .before .before) (c .before .before .before .before .before .before .if4 .left) (c .before .before .before .before .if5 .left)) _ (c .before .place-of .ensures))
 
 close-elements-requires : tie.Need-close-elements-requires
-close-elements-requires c κs = long (c .before .before .before .before .before .before .before .before .before .before .before .before .before .before .before .before .before .before .before .before .before .before .before .before) .element-long
+close-elements-requires c κs = long (c .before .before .before .before .before .before .before .before .before .before .before .before .before .before .before .before .before .before .before .before .before .before .before .before .before) .element-long
 
 close-criteria-requires : tie.Need-close-criteria-requires
-close-criteria-requires c κs = long (c .before .before .before .before .before .before .before .before .before .before .before .before .before .before .before .before .before .before .before .before .before .before .before .before .before .before) .criterion-long
+close-criteria-requires c κs = long (c .before .before .before .before .before .before .before .before .before .before .before .before .before .before .before .before .before .before .before .before .before .before .before .before .before .before .before) .criterion-long
 
 sub-t : tie.Need-sub-t
-sub-t c = retrieve-some _ _ (zero (c .before .before .before .before .before .before .before .before .before .before .before .before .before .before)) (is-retrieve (c .before .before .before .before .before .before .before .before .before .before .before .before .before .before) (c .before .before .before .before .before .before .before .before .before .before .before .if3 .left) (c .before .before .before .before .before .before .before .before .before .if4 .left))
+sub-t c = retrieve-some _ _ (zero (c .before .before .before .before .before .before .before .before .before .before .before .before .before .before)) (is-retrieve (c .before .before .before .before .before .before .before .before .before .before .before .before .before .before) (c .before .before .before .before .before .before .before .before .before .before .before .if4 .left) (c .before .before .before .before .before .before .before .before .before .if5 .left))
 
 element-write-t-9 : tie.Need-element-write-t-9
-element-write-t-9 c = queue-there (c .before .before .before .before .before .before .before .before .before .before .before .before .before .before) (c .before .before .before .before .before .before .before .before .before .before .before .if3 .left) .queue-small
+element-write-t-9 c = queue-there (c .before .before .before .before .before .before .before .before .before .before .before .before .before .before) (c .before .before .before .before .before .before .before .before .before .before .before .if4 .left) .queue-small
 
-answered-requires-5 : tie.Need-answered-requires-5
-answered-requires-5 c κs = search needs
+returns : tie.Need-returns
+returns c = task-done _ _ (zero (c .before .before .before .before .before .before .before .before .before .before .before .before .before .before .before .before .before .before .before .before .before)) (c .before .before .before .before .before .before .before .before .before .before .before .before .before .before .before .before .before .before .before .before .if2 .taken) _ (c .before .before .before .before .before .before .before .before .before .before .before .before .before .before .before .before .before .before .before .target-of .ensures) _ _ _ _ _ (c .before .before .before .before .before .before .before .before .before .before .before .task-after .ensures) (c .before .before .before .before .before .before .before .before .before .before .before .before .met-by .ensures) (c .before .before .before .before .held-by .ensures) (c .elected-by .ensures) (c .before .before .before .before .before .before .before .before .before .before .pick .ensures)
+
+returns-2 : tie.Need-returns-2
+returns-2 c = task-kept _ _ (zero (c .before .before .before .before .before .before .before .before .before .before .before .before .before .before)) (c .before .before .before .before .before .before .before .before .before .before .before .before .before .if2 .taken) _ (c .before .before .before .before .before .before .before .before .before .before .before .before .target-of .ensures) _ _ _ _ (c .before .before .before .before .task-after .ensures) (c .before .before .before .before .before .met-by .ensures) (c .if3 .left) (own (c .before .before .before .before .before .before .before .before .before .before .before .before .before .before)) (c .before .before .before .pick .ensures)
+
+returns-3 : tie.Need-returns-3
+returns-3 c = region-done _ _ (zero (c .before .before .before .before .before .before .before .before .before .before .before .before)) (c .before .before .before .before .before .before .before .before .before .before .before .if2 .left) (c .before .before .before .before .before .before .before .before .before .if4 .taken) _ _ _ _ (c .before .before .before .before .before .before .before .holder-after .ensures) (c .before .before .before .before .held-by2 .ensures) (c .elected-by2 .ensures) (c .before .before .before .before .before .before .before .before .before .before .before .before .if1 .taken)
+
+returns-4 : tie.Need-returns-4
+returns-4 c = send-done _ _ (zero (c .before .before .before .before .before .before)) (c .before .if5 .taken) _ _ (c .before .before .before .before .before .before .if1 .taken) (own (c .before .before .before .before .before .before))
 
 returns-5 : tie.Need-returns-5
-returns-5 c = c .answered5 .ensures ∙ retrieve-done _ _ (zero (c .before .before .before .before .before .before .before .before .before .before .before .before .before .before .before)) (is-retrieve (c .before .before .before .before .before .before .before .before .before .before .before .before .before .before .before) (c .before .before .before .before .before .before .before .before .before .before .before .before .if3 .left) (c .before .before .before .before .before .before .before .before .before .before .if4 .left)) _ (c .before .before .before .before .before .before .before .place-of .ensures) _ _ _ _ refl refl (c .before .before .before .close-elements .ensures) (c .before .close-criteria .ensures)
+returns-5 c = retrieve-done _ _ (zero (c .before .before .before .before .before .before .before .before .before .before .before .before .before .before)) (is-retrieve (c .before .before .before .before .before .before .before .before .before .before .before .before .before .before) (c .before .before .before .before .before .before .before .before .before .before .before .if4 .left) (c .before .before .before .before .before .before .before .before .before .if5 .left)) _ (c .before .before .before .before .before .before .place-of .ensures) _ _ _ _ _ _ refl refl (c .before .before .close-elements .ensures) (c .close-criteria .ensures) (c .before .before .before .before .before .before .before .before .before .before .before .before .before .before .if1 .taken) (own (c .before .before .before .before .before .before .before .before .before .before .before .before .before .before))
+
+returns-6 : tie.Need-returns-6
+returns-6 c = refused-done _ _ _ _ (c .before .before .refusal-of .ensures) (c .if1 .left) (c .before .reported-by .ensures)
 
 pub call-spec : {M : Type 1} → statement M
 call-spec =
@@ -225,13 +217,11 @@ call-spec =
     (tie.spec
     refusal-of-requires
     reported-by-requires
-    answered-requires
-    returns
     target-of-requires
     cast-i
-    element-copy-out-t44
-    mul-t45
-    element-copy-out-t48
+    element-copy-out-t41
+    mul-t42
+    element-copy-out-t45
     mul-met-by
     element-copy-out-met-by
     element-copy-out-met-by-2
@@ -239,6 +229,7 @@ call-spec =
     cast-met-by-2
     met-by-requires
     task-after-requires
+    pick-requires
     element-write-t
     mul-t
     element-write-t-2
@@ -247,17 +238,12 @@ call-spec =
     element-write-t-4
     held-by-requires
     elected-by-requires
-    pick-requires
-    answered-requires-2
-    returns-2
     cast-at
     element-copy-out-holder-after
     holder-after-requires
     element-write-t-5
     held-by-requires-2
     elected-by-requires-2
-    answered-requires-3
-    returns-3
     element-copy-out-n
     mul-from
     cast-end
@@ -268,8 +254,6 @@ call-spec =
     element-write-t-7
     add-t
     element-write-t-8
-    answered-requires-4
-    returns-4
     place-of-requires
     mul-value
     element-copy-out-value
@@ -278,5 +262,9 @@ call-spec =
     close-criteria-requires
     sub-t
     element-write-t-9
-    answered-requires-5
-    returns-5)
+    returns
+    returns-2
+    returns-3
+    returns-4
+    returns-5
+    returns-6)

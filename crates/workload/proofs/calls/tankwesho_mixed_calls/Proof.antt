@@ -1,13 +1,9 @@
 -- `tankwesho_mixed_calls` returns the checksum of the run.
 use borrow.Author.Needs.{needs}
 use mathlib.Core.Path.{ap}
-use Prim.Native.Nat.{ℕ}
-use Rattle.workload.specs.declared.calls.Run.{Run}
+use Rattle.workload.specs.declared.calls.Ran.{Ran}
 use Rattle.workload.proofs.calls.tankwesho_mixed_calls.Statement.{statement}
 use Rattle.workload.proofs.calls.tankwesho_mixed_calls.Tie as tie
-use Rattle.workload.proofs.calls.tankwesho_mixed_calls.Reads as reads
-use Rattle.workload.proofs.calls.tankwesho_mixed_calls.Lts as lts
-use Rattle.workload.proofs.calls.run_of.Reads as run-of-reads
 
 run-of-requires : tie.Need-run-of-requires
 run-of-requires c κs = search needs
@@ -16,7 +12,7 @@ cast-result : tie.Need-cast-result
 cast-result c = search needs
 
 returns : tie.Need-returns
-returns c = ap (λ (r : Run). r .sum) (c .before .run-of .ensures)
+returns c = ap (λ (r : Ran). r .sum) (c .before .run-of .ensures)
 
 pub tankwesho-mixed-calls-spec : {M : Type 1} → statement M
 tankwesho-mixed-calls-spec = tie.close (tie.spec run-of-requires cast-result returns)

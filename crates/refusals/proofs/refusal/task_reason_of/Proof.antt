@@ -1,0 +1,35 @@
+-- The picks stand from the last reason to the first, so the chain is the list's first that applies.
+use borrow.Author.Needs.{needs}
+use Rattle.refusals.specs.Late.{taskFlags}
+use Rattle.refusals.proofs.refusal.task_reason_of.Statement.{statement}
+use Rattle.refusals.proofs.refusal.task_reason_of.Tie as tie
+
+inside-of-requires : tie.Need-inside-of-requires
+inside-of-requires c κs = search needs
+
+pick-requires : tie.Need-pick-requires
+pick-requires c κs = search needs
+
+wrong-state-of-requires : tie.Need-wrong-state-of-requires
+wrong-state-of-requires c κs = search needs
+
+pick-requires-2 : tie.Need-pick-requires-2
+pick-requires-2 c κs = search needs
+
+pick-requires-3 : tie.Need-pick-requires-3
+pick-requires-3 c κs = search needs
+
+returns : tie.Need-returns
+unfolding taskFlags
+returns c = rw (c .pick3 .ensures, c .before .before .before .pick2 .ensures, c .before .before .before .before .before .pick .ensures, c .before .before .before .before .wrong-state-of .ensures, c .before .before .before .before .before .before .inside-of .ensures)
+
+pub task-reason-of-spec : {M : Type 1} → statement M
+task-reason-of-spec =
+    tie.close
+    (tie.spec
+    inside-of-requires
+    pick-requires
+    wrong-state-of-requires
+    pick-requires-2
+    pick-requires-3
+    returns)
