@@ -106,12 +106,14 @@ module _ (s : Standing) (input : List ℕ) (at : ℕ) (r : Turn) (e : r ≡ turn
 
 -- ---- the turn that the code makes, by the line that it found
 
--- a whole line lies within the input
-module _ (input : List ℕ) (at from to next : ℕ) where
-  abbrev Within : Type 0
-  Within = (from ≤ to) × (to ≤ length input)
+-- a whole line and its line feed lie within the input
+pub record Within (input : List ℕ) (from to next : ℕ) : Type 0 where
+  pub ordered : from ≤ to
+  pub ended : to < next
+  pub inside : next ≤ length input
 
-  pub whole-within : (l : Line) → l ≡ lineAt input at → l ≡ Whole from to next → Within
+module _ (input : List ℕ) (at from to next : ℕ) where
+  pub whole-within : (l : Line) → l ≡ lineAt input at → l ≡ Whole from to next → Within input from to next
   unfolding lineAt lineIn
   whole-within l e k = go (eqb (length rest) 0) (eqb here (length rest)) (ltb longest here) refl (sym e ∙ k)
     where
@@ -121,17 +123,19 @@ module _ (input : List ℕ) (at from to next : ℕ) where
       here : ℕ
       here = before lineFeed rest
 
-      go : (none unended long : Bool) → eqb (length rest) 0 ≡ none
-          → cond none Nothing (cond unended Unended (cond long (TooLong (at + here + 1)) (Whole at (at + here) (at + here + 1)))) ≡ Whole from to next
-          → Within
+      go : (none unended long : Bool) → eqb here (length rest) ≡ unended
+          → cond none Nothing (cond unended Unended (cond long (TooLong (at + here + 1)) (Whole at (at + here) (at + here + 1))))
+          ≡ Whole from to next
+          → Within input from to next
       go true unended long h f = let z : _≡_ {A = ℕ} 0 1 = cc in absurd (omega arith)
       go false true long h f = let z : _≡_ {A = ℕ} 0 1 = cc in absurd (omega arith)
       go false false true h f = let z : _≡_ {A = ℕ} 0 1 = cc in absurd (omega arith)
       go false false false h f =
           let first : at ≡ from = cc in
           let last : at + here ≡ to = cc in
-          let some = eqb-false (length rest) 0 h in
-          (omega arith, omega (arith, before-le lineFeed rest, length-drop at input))
+          let behind : at + here + 1 ≡ next = cc in
+          let some = eqb-false here (length rest) h in
+          record { ordered = omega arith; ended = omega arith; inside = omega (arith, before-le lineFeed rest, length-drop at input) }
 
 module _ (s : Standing) (input : List ℕ) (at : ℕ) (l : Line) (e : l ≡ lineAt input at) (d : Done) where
   turn-of : (found : Line) → l ≡ found → turnOf s input found ≡ turnAt s input at

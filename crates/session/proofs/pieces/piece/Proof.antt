@@ -26,7 +26,7 @@ lesser-requires-2 : tie.Need-lesser-requires-2
 lesser-requires-2 c κs = search needs
 
 to-front-requires : tie.Need-to-front-requires
-to-front-requires c κs = front-fits _ _ _ _ _ (c .before .before .before .before .before .before .before .before .lesser .ensures) _ (c .before .before .before .before .feed .ensures .0) _ (c .before .lesser2 .ensures)
+to-front-requires c κs = let w = front-fits _ _ _ _ _ (c .before .before .before .before .before .before .before .before .lesser .ensures) _ (c .before .before .before .before .feed .ensures .0) _ (c .before .lesser2 .ensures) in search needs
 
 same-length : tie.Need-same-length
 same-length c = search needs

@@ -11,7 +11,7 @@ enum-known-line : tie.Need-enum-known-line
 enum-known-line c = search needs
 
 sub-one-line : tie.Need-sub-one-line
-sub-one-line c = whole-within _ _ _ _ _ _ (c .before .before .before .line-from .ensures) (c .before .line .given .1) .0
+sub-one-line c = let w = whole-within _ _ _ _ _ _ (c .before .before .before .line-from .ensures) (c .before .line .given .1) in search needs
 
 part-one-line-start : tie.Need-part-one-line-start
 part-one-line-start c = let w = whole-within _ _ _ _ _ _ (c .before .before .before .line-from .ensures) (c .before .line .given .1) in search needs
