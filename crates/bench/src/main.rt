@@ -5,7 +5,7 @@ use session::Standing;
 use session::finish;
 use session::piece;
 use session::start;
-ghost use Prim.Native.Nat.{_<_, _≤_};
+ghost use Prim.Native.Nat.{_*_, _<_, _≤_};
 ghost use lib.ListN.{length};
 
 // After one turn: where the session stands, how many bytes at the front of the buffer belong to a line that goes on, and whether there
@@ -17,9 +17,10 @@ struct Turn {
 }
 
 // Reads once behind the bytes that are held, answers the lines that have ended, and writes the answers. Where the input has ended, what
-// is held gets its answer; where a write fails, the run ends.
+// is held gets its answer; where a write fails, the run ends. Only with room for an answer line to every byte is each ended line answered
+// in its turn (`piece-part` of session's proofs), so that room is asked for.
 fn turn_of(s: Standing, held: usize, buffer: &mut [u8], out: &mut [u8]) -> Turn
-    requires { ⌜ (held ≤ 129) × (129 < length (now buffer)) ⌝ }
+    requires { ⌜ (held ≤ 129) × (129 < length (now buffer)) × (15 * length (now buffer) ≤ length (now out)) ⌝ }
     ensures { λ r. ⌜ r .held ≤ 129 ⌝ }
 {
     let got = libc::read(STDIN_FILENO, &mut buffer[held..]);
@@ -47,7 +48,7 @@ fn turn_of(s: Standing, held: usize, buffer: &mut [u8], out: &mut [u8]) -> Turn
 
 // A proved loop has to end, and nothing says that the input does: the turns are counted down from a number that no run uses up.
 fn run(buffer: &mut [u8], out: &mut [u8])
-    requires { ⌜ 129 < length (now buffer) ⌝ }
+    requires { ⌜ (129 < length (now buffer)) × (15 * length (now buffer) ≤ length (now out)) ⌝ }
 {
     let mut s = start();
     let mut held = 0;

@@ -72,7 +72,7 @@ fn arrived_status(ok: bool, elected: u8, caller: u8, list: u32, operator: u32) -
     pick(!ok, 10, r12)
 }
 
-// The queries are no hurry, so that the table is handed over whole.
+// A query is in no hurry, so the table is handed over whole.
 fn is_valid(t: Table) -> bool
     ensures { λ r. ⌜ r ≡ valid t ⌝ }
 {

@@ -1,3 +1,4 @@
+-- The lengths of the buffers stay, and no more is held than a turn says; the measure is the turns that are left.
 use borrow.Author.Needs.{needs}
 use Prim.Native.Nat.{_≤_}
 use mathlib.Core.Path.{_≡_}
