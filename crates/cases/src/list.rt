@@ -57,6 +57,7 @@ fn behind(at: usize, end: usize) -> usize
     at
 }
 
+// A case: its heading, and the answers to its input.
 fn case(text: &[u8], buffer: &mut [u8], out: &mut [u8])
     requires { ⌜ 4225 ≤ length (now buffer) ⌝ }
 {
@@ -83,6 +84,7 @@ fn played(text: &[u8], buffer: &mut [u8], out: &mut [u8])
     }
 }
 
+// A line ends at its line feed, or with the text.
 pub(crate) fn play(text: &[u8], buffer: &mut [u8], out: &mut [u8])
     requires { ⌜ 4225 ≤ length (now buffer) ⌝ }
 {

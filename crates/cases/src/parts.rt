@@ -80,6 +80,7 @@ fn file_fed(name: &[u8], p: Place, size: usize, buffer: &mut [u8], out: &mut [u8
     after
 }
 
+// Characters A, from a place up to another.
 fn letters(buffer: &mut [u8], from: usize, to: usize)
     requires { ⌜ to ≤ length (now buffer) ⌝ }
 {
@@ -88,6 +89,7 @@ fn letters(buffer: &mut [u8], from: usize, to: usize)
     }
 }
 
+// A function of its own, since a store between two calls that borrow the buffer would ask for a proof file.
 fn set_before(buffer: &mut [u8], end: usize, byte: u8)
     requires { ⌜ (1 ≤ end) × (end ≤ length (now buffer)) ⌝ }
 {
