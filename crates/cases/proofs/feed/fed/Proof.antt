@@ -1,0 +1,42 @@
+-- Safety alone: what `piece` says that it wrote lies within the output, and it holds no more than 129 bytes.
+use borrow.Author.Needs.{needs}
+use Rattle.session.proofs.Buffers.{held-small, written-within}
+use Rattle.cases.proofs.feed.fed.Statement.{statement}
+use Rattle.cases.proofs.feed.fed.Tie as tie
+
+piece-requires : tie.Need-piece-requires
+piece-requires c κs = search needs
+
+sub-write-all : tie.Need-sub-write-all
+sub-write-all c = search needs
+
+part-write-all-start : tie.Need-part-write-all-start
+part-write-all-start c = search needs
+
+part-write-all-end : tie.Need-part-write-all-end
+part-write-all-end c = let w = written-within _ _ _ _ (c .before .before .before .before .before .piece .ensures .0) in search needs
+
+write-all-requires : tie.Need-write-all-requires
+write-all-requires c κs = search needs
+
+same-length : tie.Need-same-length
+same-length c = search needs
+
+same-length-2 : tie.Need-same-length-2
+same-length-2 c = search needs
+
+returns : tie.Need-returns
+returns c = held-small _ _ _ _ (c .before .before .before .before .before .before .before .before .piece .ensures .0)
+
+pub fed-spec : {M : Type 1} → statement M
+fed-spec =
+    tie.close
+    (tie.spec
+    piece-requires
+    sub-write-all
+    part-write-all-start
+    part-write-all-end
+    write-all-requires
+    same-length
+    same-length-2
+    returns)

@@ -1,0 +1,36 @@
+// The words of a list's line that are numbers.
+ghost use Prim.Native.Nat.{_≤_};
+
+// A number in decimal. A digit's value is what its byte leaves over 16.
+pub(crate) fn number_of(word: &[u8]) -> usize
+    ensures { λ r. ⌜ r ≤ 9999999999 ⌝ }
+{
+    let mut n = 0;
+    for i in 0..word.len() {
+        n = n % 100000000 * 10 + (word[i] % 16) as usize;
+    }
+    n
+}
+
+// Digits come before letters.
+pub(crate) fn is_number(word: &[u8]) -> bool {
+    if word.len() == 0 {
+        return false;
+    }
+    let first = word[0];
+    (b'0' <= first) & (first <= b'9')
+}
+
+// The size of the pieces: 4096 where the word says none that the buffer has room for.
+pub(crate) fn size_of(word: &[u8]) -> usize
+    ensures { λ r. ⌜ (1 ≤ r) × (r ≤ 4096) ⌝ }
+{
+    let n = number_of(word);
+    if n == 0 {
+        return 4096;
+    }
+    if 4096 < n {
+        return 4096;
+    }
+    n
+}
