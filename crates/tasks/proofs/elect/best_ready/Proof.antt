@@ -6,6 +6,7 @@ use denote.Ref.{now}
 use lib.Dec.{eqb}
 use Rattle.rules.specs.Numbers.{taskRoom}
 use Rattle.rules.specs.Election.{lowest, readyAt, priorityAt, isBest, bestReady}
+use Rattle.tasks.proofs.Rows.{smallest-within}
 use Rattle.tasks.proofs.elect.best_ready.Statement.{statement}
 use Rattle.tasks.proofs.elect.best_ready.Tie as tie
 
@@ -13,7 +14,7 @@ smallest-of-requires : tie.Need-smallest-of-requires
 smallest-of-requires c κs = search needs
 
 lowest-of-requires : tie.Need-lowest-of-requires
-lowest-of-requires c κs = search needs
+lowest-of-requires c κs = (search needs, (search needs, smallest-within _ _ _ (c .smallest-of .ensures)))
 
 returns : tie.Need-returns
 unfolding bestReady isBest

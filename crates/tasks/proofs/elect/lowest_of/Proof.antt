@@ -1,65 +1,26 @@
--- None of the tasks passed has it, so the first that has it is the lowest.
+-- The empty word says that there is none; of any other the lowest bit is the lowest number.
 use borrow.Author.Needs.{needs}
-use Prim.Native.Nat.{_≤_, _-_}
-use mathlib.Core.Path.{_≡_, sym, _∙_}
-use mathlib.Core.Bool.{_&&_}
-use lib.Dec.{eqb}
-use Rattle.rules.specs.Numbers.{nobody}
-use Rattle.rules.specs.Election.{lowest, readyAt, priorityAt}
-use Rattle.rules.proofs.Election.{lowest-again, lowest-end, lowest-found}
+use mathlib.Core.Path.{_∙_}
+use native.Mathlib.Omega.{arith}
+use lib.Count.{trailing-le}
+use Rattle.tasks.proofs.Words.{empty-is, trailing-is}
 use Rattle.tasks.proofs.elect.lowest_of.Statement.{statement}
 use Rattle.tasks.proofs.elect.lowest_of.Tie as tie
 
-abbrev Inv-loop : tie.InvT-loop
-Inv-loop state priority p i₀ i = (i ≤ 32) × (lowest i (λ j. readyAt state j && eqb (priorityAt priority j) p) ≡ nobody)
+word-of-requires : tie.Need-word-of-requires
+word-of-requires c κs = search needs
 
-abbrev μ-loop : tie.MeasureT-loop
-μ-loop state priority p i₀ i = 32 - i
+returns : tie.Need-returns
+returns c = empty-is 32 _ (c .before .word-of .ensures) (omega arith) (c .if1 .taken)
 
-loop-holds : tie.Need-loop-holds Inv-loop μ-loop
-unfolding lowest
-loop-holds c = search needs
+lowest-bit-requires : tie.Need-lowest-bit-requires
+lowest-bit-requires c κs = search needs
 
-element-copy-out-has-it : tie.Need-element-copy-out-has-it Inv-loop μ-loop
-element-copy-out-has-it c = search needs
+cast-result : tie.Need-cast-result
+cast-result c = record { fits = omega (arith, c .lowest-bit .ensures, trailing-le 32 (c .before .before .word-of .result)) }
 
-element-copy-out-has-it-2 : tie.Need-element-copy-out-has-it-2 Inv-loop μ-loop
-element-copy-out-has-it-2 c = search needs
-
-has-it-requires : tie.Need-has-it-requires Inv-loop μ-loop
-has-it-requires c κs = search needs
-
-cast-result : tie.Need-cast-result Inv-loop μ-loop
-cast-result c = search needs
-
-returns : tie.Need-returns Inv-loop μ-loop
-returns c = sym (lowest-found _ _ 32 (search needs) (search needs) (c .before .before .before .before .before .loop .inv .1) (sym (c .before .has-it .ensures) ∙ c .if1 .taken))
-
-add-i : tie.Need-add-i Inv-loop μ-loop
-add-i c = search needs
-
-loop-less : tie.Need-loop-less Inv-loop μ-loop
-loop-less c = search needs
-
-loop-again : tie.Need-loop-again Inv-loop μ-loop
-loop-again c = (search needs, lowest-again _ _ (c .before .before .before .before .before .loop .inv .1) (sym (c .before .has-it .ensures) ∙ c .if1 .left))
-
-returns-2 : tie.Need-returns-2 Inv-loop μ-loop
-returns-2 c = lowest-end _ 32 _ (c .before .loop .inv .1) (search needs) (search needs)
+returns-2 : tie.Need-returns-2
+returns-2 c = c .lowest-bit .ensures ∙ trailing-is 32 _ (c .before .before .word-of .ensures) (omega arith) 32 (omega arith) (c .before .if1 .left)
 
 pub lowest-of-spec : {M : Type 1} → statement M
-lowest-of-spec =
-    tie.close
-    (tie.spec
-    Inv-loop
-    μ-loop
-    loop-holds
-    element-copy-out-has-it
-    element-copy-out-has-it-2
-    has-it-requires
-    cast-result
-    returns
-    add-i
-    loop-less
-    loop-again
-    returns-2)
+lowest-of-spec = tie.close (tie.spec word-of-requires returns lowest-bit-requires cast-result returns-2)

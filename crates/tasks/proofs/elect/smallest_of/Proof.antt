@@ -4,6 +4,7 @@ use Prim.Native.Nat.{_≤_, _-_}
 use mathlib.Core.Path.{_≡_}
 use Rattle.rules.specs.Election.{smallest, readyAt, priorityAt}
 use Rattle.rules.proofs.Election.{smallest-again, smallest-end}
+use Rattle.tasks.proofs.Rows.{smallest-within}
 use Rattle.tasks.proofs.elect.smallest_of.Statement.{statement}
 use Rattle.tasks.proofs.elect.smallest_of.Tie as tie
 
@@ -24,7 +25,7 @@ element-copy-out-lesser-2 : tie.Need-element-copy-out-lesser-2 Inv-loop μ-loop
 element-copy-out-lesser-2 c = search needs
 
 lesser-requires : tie.Need-lesser-requires Inv-loop μ-loop
-lesser-requires c κs = search needs
+lesser-requires c κs = smallest-within _ _ _ (c .before .before .before .loop .inv .1)
 
 add-i : tie.Need-add-i Inv-loop μ-loop
 add-i c = search needs
