@@ -93,7 +93,8 @@ static void print_costs(int repeats)
 
 static void print_mix(void)
 {
-    static const char *const names[] = {"START", "STOP", "END", "SIGNAL", "WAIT", "CLEAR", "ENTER", "EXIT", "SEND", "RETRIEVE"};
+    static const char *const names[] = {"START", "STOP", "END", "SIGNAL", "WAIT", "CLEAR", "ENTER", "EXIT", "SEND", "RETRIEVE",
+                                         "ARM", "DISARM", "TICK"};
     static const uint8_t statuses[] = {0, 1, 10, 11, 12, 13, 14, 15, 16, 17, 18, 19};
     enum { OPERATIONS = sizeof names / sizeof *names, STATUSES = sizeof statuses };
     uint64_t all[STATUSES] = {0};

@@ -1,31 +1,39 @@
 -- What an accepted call knows: who calls, which task it changes, and that its numbers fit.
 use Prim.Native.Nat.{ℕ, _%_, _<_, _≤_}
-use mathlib.Core.Path.{_≡_, refl, ap, _∙_}
+use mathlib.Core.Path.{_≡_, refl, sym, ap, _∙_}
 use mathlib.Core.Logic.{_≢_, _⊎_, inl, inr, ⊎-elim}
-use mathlib.Core.Bool.{Bool, true, false, cond, not, _&&_, true≢false}
+use mathlib.Core.Bool.{Bool, true, false, cond, not, _&&_, _||_, true≢false}
+use mathlib.Core.List.{List, map}
 use native.Mathlib.Omega.{arith}
 use native.Mathlib.Nat.{mod-eq-of-lt}
 use lib.Dec.{eqb, ltb}
 use lib.ListN.{getD, set}
 use borrow.Author.Tests.{eqb-true, eqb-false, ne-eqb, ltb-true, ltb-false, leb-true, not-false}
+use Rattle.rules.specs.declared.Task.{Task}
+use Rattle.rules.specs.declared.Timer.{Timer}
 use Rattle.rules.specs.declared.Table.{Table}
 use Rattle.rules.specs.declared.Call.{Call}
-use Rattle.rules.specs.Numbers.{taskRoom, regionRoom, outside, SIGNAL, WAIT, ENTER, EXIT}
+use Rattle.rules.specs.Numbers.{taskRoom, regionRoom, timerRoom, eventEnd, outside, STOP, END, SIGNAL, WAIT, ENTER, EXIT, ARM, DISARM, TICK}
 use Rattle.rules.specs.Words.{isZero}
 use Rattle.rules.specs.Regions.{entered, exited}
 use Rattle.rules.specs.Queues.{noPair}
 use Rattle.rules.specs.Events.{met}
-use Rattle.rules.specs.Tasks.{waited}
-use Rattle.rules.specs.Tables.{taskOf, changed, withHolders}
+use Rattle.rules.specs.Tasks.{stopped, waited}
+use Rattle.rules.specs.Timers.{idle, later, asArmed, disarmed}
+use Rattle.rules.specs.Tables.{taskOf, changed, withHolders, withTimers}
 use Rattle.rules.specs.Validity.{countsInRange}
-use Rattle.rules.specs.Refusals.{missing}
+use Rattle.rules.specs.Refusals.{missing, wrongState}
 use Rattle.rules.specs.Effects.{Effect, plain, effect}
 use Rattle.rules.proofs.Bools.{given, or-left, or-right}
-use Rattle.rules.proofs.Validity.{Parts, parts-of, elected-below}
+use Rattle.rules.proofs.Validity.{Parts, parts-of, elected-ready, elected-below}
 use Rattle.rules.proofs.Refusals.{Accepted}
 use Rattle.rules.proofs.Lists.{altered-set}
 use Rattle.rules.proofs.Effects.{upto}
-use Rattle.calls.specs.Effects.{target, taskAfter, holderAfter}
+use Rattle.calls.specs.Effects.{target, taskAfter, holderAfter, timerAfter}
+
+-- STOP and END of task i leave these timers
+abbrev pub timersLeft : ℕ → ℕ → List Timer → List Timer
+timersLeft operation i timers = cond (eqb operation STOP || eqb operation END) (map (disarmed i) timers) timers
 
 module _ (t : Table) (c : Call) (a : Accepted t c) where
   parts : Parts t
@@ -37,14 +45,14 @@ module _ (t : Table) (c : Call) (a : Accepted t c) where
   inside true y h k = absurd (true≢false h)
   inside false y h k = (refl, not-false y k)
 
-  -- all but SIGNAL are called by the elected task
-  pub caller-is : c .operation ≢ SIGNAL → (c .caller ≢ outside) × (c .caller ≡ t .elected)
-  caller-is n =
-      let p = inside (eqb (c .caller) outside) (eqb (c .caller) (t .elected)) (rw (ne-eqb (c .operation) SIGNAL n) at (a .barred)) (a .not-elected) in
+  -- all but SIGNAL and TICK are called by the elected task
+  pub caller-is : c .operation ≢ SIGNAL → c .operation ≢ TICK → (c .caller ≢ outside) × (c .caller ≡ t .elected)
+  caller-is n m =
+      let p = inside (eqb (c .caller) outside) (eqb (c .caller) (t .elected)) (rw (ne-eqb (c .operation) SIGNAL n, ne-eqb (c .operation) TICK m) at (a .barred)) (a .not-elected) in
       (eqb-false (c .caller) outside (p .0), eqb-true (c .caller) (t .elected) (p .1))
 
-  pub caller-below : c .operation ≢ SIGNAL → c .caller < t .tasks
-  caller-below n = let p = caller-is n in rw (p .1) (elected-below t parts (λ z. p .0 (p .1 ∙ z)))
+  pub caller-below : c .operation ≢ SIGNAL → c .operation ≢ TICK → c .caller < t .tasks
+  caller-below n m = let p = caller-is n m in rw (p .1) (elected-below t parts (λ z. p .0 (p .1 ∙ z)))
 
   -- ---- the counts
 
@@ -89,12 +97,12 @@ module _ (t : Table) (c : Call) (a : Accepted t c) where
         (
           λ e. rw e (within (c .a) (t .tasks) (rw e at (a .nothing-missing))),
           (
-            λ e. rw e (caller-below (omega arith)),
+            λ e. rw e (caller-below (omega arith) (omega arith)),
             (
               λ e. rw e (within (c .b) (t .tasks) (or-right (not (ltb (c .a) 16)) _ (rw e at (a .nothing-missing)))),
               (
-                λ e. rw e (caller-below (omega arith)),
-                (λ e. rw e (caller-below (omega arith)), tt),
+                λ e. rw e (caller-below (omega arith) (omega arith)),
+                (λ e. rw e (caller-below (omega arith) (omega arith)), tt),
               ),
             ),
           ),
@@ -102,12 +110,41 @@ module _ (t : Table) (c : Call) (a : Accepted t c) where
       )
       (c .operation) h refl
 
-  -- ---- the first six operations as one change of one task
+  -- ---- a task that STOP or END names isn't stopped yet
+
+  ends-alive : c .operation ≡ END → getD (t .state) (c .caller) 0 ≢ stopped
+  ends-alive e =
+      let p = caller-is (omega arith) (omega arith) in
+      let ready = eqb-true _ _ (elected-ready t parts (λ z. p .0 (p .1 ∙ z))) in
+      let same : getD (t .state) (c .caller) 0 ≡ 1 = ap (λ i. getD (t .state) i 0) (p .1) ∙ ready in
+      λ z. absurd (omega arith)
+
+  stops-alive : c .operation ≡ STOP → getD (t .state) (c .a) 0 ≢ stopped
+  unfolding wrongState
+  stops-alive e = eqb-false _ _ (rw e at (a .right-state))
+
+  -- so such a call changes the task's state
+  pub still-runs : (i : ℕ) → i ≡ target c → (after : Task) → after ≡ taskAfter c (taskOf t i) → after .state ≡ getD (t .state) i 0
+      → (eqb (c .operation) STOP || eqb (c .operation) END) ≡ false
+  unfolding target taskAfter
+  still-runs i is after p same = go (eqb (c .operation) STOP) refl (eqb (c .operation) END) refl
+    where
+      go : (x : Bool) → eqb (c .operation) STOP ≡ x → (y : Bool) → eqb (c .operation) END ≡ y
+          → (eqb (c .operation) STOP || eqb (c .operation) END) ≡ false
+      go true e y f =
+          let o = eqb-true (c .operation) STOP e in
+          absurd (stops-alive o (sym (rw (is, o) at same) ∙ rw o at (ap (λ r. r .state) p)))
+      go false e true f =
+          let o = eqb-true (c .operation) END f in
+          absurd (ends-alive o (sym (rw (is, o) at same) ∙ rw o at (ap (λ r. r .state) p)))
+      go false e false f = rw (e, f)
+
+  -- ---- the first six operations as one change of one task, and of its timers where it is stopped
 
   abbrev taskEffect : Effect
   taskEffect =
       record {
-        table = changed (target c) (taskAfter c) t;
+        table = withTimers (t .ticks) (timersLeft (c .operation) (target c) (t .timers)) (changed (target c) (taskAfter c) t);
         status = cond (eqb (c .operation) WAIT && not (met (c .b % 256) (c .a % 65536) (taskOf t (target c) .arrived))) 1 0;
         given = noPair;
       }
@@ -167,3 +204,36 @@ module _ (t : Table) (c : Call) (a : Accepted t c) where
       ⊎-elim (λ e. rw e (ap (λ holders. plain (withHolders holders t)) (altered-set (entered (c .caller)) (c .a) 0 (t .holder))))
       (λ e. rw e (ap (λ holders. plain (withHolders holders t)) (altered-set (exited (c .caller)) (c .a) 0 (t .holder))))
       (enter-or-exit l h)
+
+  -- ---- ARM and DISARM as one change of one timer
+
+  arm-or-disarm : 10 ≤ c .operation → c .operation < 12 → (c .operation ≡ ARM) ⊎ (c .operation ≡ DISARM)
+  arm-or-disarm l h = go (eqb (c .operation) ARM) refl
+    where
+      go : (b : Bool) → eqb (c .operation) ARM ≡ b → (c .operation ≡ ARM) ⊎ (c .operation ≡ DISARM)
+      go true e = inl (eqb-true (c .operation) ARM e)
+      go false e = let n : c .operation ≢ ARM = eqb-false (c .operation) ARM e in inr (omega arith)
+
+  pub timer-there : 10 ≤ c .operation → c .operation < 12 → c .a < timerRoom
+  unfolding missing
+  timer-there l h =
+      ⊎-elim (λ e. within (c .a) timerRoom (or-left _ _ (rw e at (a .nothing-missing))))
+      (λ e. within (c .a) timerRoom (rw e at (a .nothing-missing)))
+      (arm-or-disarm l h)
+
+  alarm-fits : c .operation ≡ ARM → c .b % 256 ≡ c .b
+  unfolding missing
+  alarm-fits e =
+      let h = within (c .b) eventEnd (or-left _ _ (or-right (not (ltb (c .a) timerRoom)) _ (rw e at (a .nothing-missing)))) in
+      mod-eq-of-lt (omega arith)
+
+  pub timer-effect : 10 ≤ c .operation → c .operation < 12
+      → effect t c ≡ plain (withTimers (t .ticks) (set (t .timers) (c .a) (timerAfter c (t .ticks) (getD (t .timers) (c .a) idle))) t)
+  unfolding effect timerAfter
+  timer-effect l h =
+      ⊎-elim (λ e. rw (alarm-fits e, e) (ap with-timers (altered-set (asArmed (c .caller) (c .b) (later (t .ticks) (c .c))) (c .a) idle (t .timers))))
+      (λ e. rw e (ap with-timers (altered-set (disarmed (c .caller)) (c .a) idle (t .timers))))
+      (arm-or-disarm l h)
+    where
+      with-timers : List Timer → Effect
+      with-timers timers = plain (withTimers (t .ticks) timers t)

@@ -3,21 +3,23 @@ use Prim.Native.Nat.{ℕ, zero, suc, _+_, _-_, _%_, _<_, _≤_}
 use mathlib.Core.Path.{_≡_, refl, sym, ap, ap₂, _∙_}
 use mathlib.Core.Logic.{_≢_}
 use mathlib.Core.Bool.{Bool, true, false, cond, not, _&&_, _||_}
-use mathlib.Core.List.{List, [], _∷_}
+use mathlib.Core.List.{List, [], _∷_, map}
 use native.Mathlib.Omega.{arith}
 use native.Mathlib.Nat.{mod-eq-of-lt}
 use lib.Dec.{eqb, ltb}
 use lib.ListN.{getD, set, length}
 use borrow.Author.Tests.{eqb-true, eqb-false, ne-eqb, ltb-true, ltb-false, leb-false, not-false}
 use Rattle.rules.specs.declared.Task.{Task}
+use Rattle.rules.specs.declared.Timer.{Timer}
 use Rattle.rules.specs.declared.Table.{Table}
 use Rattle.rules.specs.declared.Call.{Call}
 use Rattle.rules.specs.declared.Done.{Done}
-use Rattle.rules.specs.Numbers.{queueRoom, places, WAIT, SEND, RETRIEVE}
+use Rattle.rules.specs.Numbers.{queueRoom, places, STOP, END, WAIT, SEND, RETRIEVE}
 use Rattle.rules.specs.Events.{met}
 use Rattle.rules.specs.Regions.{held}
 use Rattle.rules.specs.Queues.{Pair, pair, firstPlace}
-use Rattle.rules.specs.Tables.{taskOf, lengthOf, boundOf, queueOf, withTask, withHolders, withElected, electionOf}
+use Rattle.rules.specs.Timers.{disarmed}
+use Rattle.rules.specs.Tables.{taskOf, lengthOf, boundOf, queueOf, withTask, withHolders, withTimers, withElected, electionOf}
 use Rattle.rules.specs.Answers.{done}
 use Rattle.rules.specs.Refusals.{missing, refusal}
 use Rattle.rules.specs.Effects.{Effect, plain, effect}
@@ -31,7 +33,7 @@ use Rattle.queues.specs.Places.{placeIn, closedIn}
 use Rattle.queues.proofs.Places.{place-is, none-is, given-is, taken-is}
 use Rattle.calls.specs.Effects.{target, taskAfter, holderAfter}
 use Rattle.refusals.proofs.Refused.{room, send-there, retrieve-there}
-use Rattle.calls.proofs.Accepted.{task-effect, region-effect}
+use Rattle.calls.proofs.Accepted.{timersLeft, still-runs, task-effect, region-effect}
 
 -- ---- refused
 
@@ -42,7 +44,7 @@ refused-done t c s who e n w = rw (← e, ne-eqb s 0 n, w)
 
 -- ---- accepted
 
-accepted-is : (t : Table) (c : Call) → refusal t c ≡ 0 → step t c ≡ accepted (effect t c)
+pub accepted-is : (t : Table) (c : Call) → refusal t c ≡ 0 → step t c ≡ accepted (effect t c)
 unfolding step
 accepted-is t c h = rw h
 
@@ -67,32 +69,38 @@ set-own (x ∷ xs) zero = refl
 set-own (x ∷ xs) (suc i) = ap (λ ys. x ∷ ys) (set-own xs i)
 
 module _ (t : Table) (c : Call) (z : refusal t c ≡ 0) where
-  facts : Accepted t c
+  pub facts : Accepted t c
   facts = accepted-facts t c z
 
   parts : Parts t
   parts = parts-of t (facts .is-valid)
 
-  elected-same : electionOf t ≡ t .elected
+  pub elected-same : electionOf t ≡ t .elected
   elected-same = sym (parts .elected)
 
   -- START, STOP, END, SIGNAL, WAIT, CLEAR
-  at-target : c .operation < 6 → (after : Task) (m : Bool) (v who waits : ℕ)
-      → after ≡ taskAfter c (taskOf t (target c)) → m ≡ met (c .b % 256) (c .a % 65536) (taskOf t (target c) .arrived)
+  at-target : c .operation < 6 → (after : Task) (left : List Timer) (m : Bool) (v who waits : ℕ)
+      → after ≡ taskAfter c (taskOf t (target c)) → left ≡ timersLeft (c .operation) (target c) (t .timers)
+      → m ≡ met (c .b % 256) (c .a % 65536) (taskOf t (target c) .arrived)
       → v ≡ held (t .holder) → who ≡ electedBy v (set (t .state) (target c) (after .state)) (t .priority)
       → waits ≡ cond (eqb (c .operation) WAIT && not m) 1 0
-      → record { table = withElected who (withTask (target c) after t); answer = record { status = waits; value = 0; key = 0; elected = who } } ≡ step t c
-  at-target h after m v who waits p q r s w =
+      → record { table = withElected who (withTimers (t .ticks) left (withTask (target c) after t)); answer = record { status = waits; value = 0; key = 0; elected = who } } ≡ step t c
+  at-target h after left m v who waits p k q r s w =
       let elects : who ≡ electionOf (withTask (target c) (taskAfter c (taskOf t (target c))) t) = s ∙ rw (r, p) (election-by _ _ _) in
-      rw (w, q, elects, p) (sym (accepted-is t c z ∙ ap accepted (task-effect t c facts h) ∙ waits-or-not _ (eqb (c .operation) WAIT && not (met (c .b % 256) (c .a % 65536) (taskOf t (target c) .arrived)))))
+      rw (w, q, elects, k, p) (sym (accepted-is t c z ∙ ap accepted (task-effect t c facts h) ∙ waits-or-not _ (eqb (c .operation) WAIT && not (met (c .b % 256) (c .a % 65536) (taskOf t (target c) .arrived)))))
 
-  pub task-done : c .operation < 6 → (i : ℕ) → i ≡ target c → (after : Task) (m : Bool) (v who waits : ℕ)
-      → after ≡ taskAfter c (taskOf t i) → m ≡ met (c .b % 256) (c .a % 65536) (taskOf t i .arrived)
-      → v ≡ held (t .holder) → who ≡ electedBy v (set (t .state) i (after .state)) (t .priority)
-      → waits ≡ cond (eqb (c .operation) WAIT && not m) 1 0
-      → record { table = withElected who (withTask i after t); answer = record { status = waits; value = 0; key = 0; elected = who } } ≡ step t c
-  task-done h i is after m v who waits p q r s w =
-      rw is (at-target h after m v who waits (rw is at p) (rw is at q) r (rw is at s) w)
+  module _ (h : c .operation < 6) (i : ℕ) (is : i ≡ target c) (after : Task) (m : Bool) (v who waits : ℕ)
+      (p : after ≡ taskAfter c (taskOf t i)) (q : m ≡ met (c .b % 256) (c .a % 65536) (taskOf t i .arrived))
+      (r : v ≡ held (t .holder)) (s : who ≡ electedBy v (set (t .state) i (after .state)) (t .priority))
+      (w : waits ≡ cond (eqb (c .operation) WAIT && not m) 1 0) where
+    pub stop-done : (eqb (c .operation) STOP || eqb (c .operation) END) ≡ true → (left : List Timer) → left ≡ map (disarmed i) (t .timers)
+        → record { table = withElected who (withTimers (t .ticks) left (withTask i after t)); answer = record { status = waits; value = 0; key = 0; elected = who } } ≡ step t c
+    stop-done e left k =
+        rw is (at-target h after left m v who waits (rw is at p) (rw e (rw is at k)) (rw is at q) r (rw is at s) w)
+
+    pub task-done : (eqb (c .operation) STOP || eqb (c .operation) END) ≡ false
+        → record { table = withElected who (withTask i after t); answer = record { status = waits; value = 0; key = 0; elected = who } } ≡ step t c
+    task-done e = rw is (at-target h after (t .timers) m v who waits (rw is at p) (rw e refl) (rw is at q) r (rw is at s) w)
 
   -- the same where the task keeps its state: nobody is elected afresh
   pub task-kept : c .operation < 6 → (i : ℕ) → i ≡ target c → (after : Task) (m : Bool) (who waits : ℕ)
@@ -103,7 +111,7 @@ module _ (t : Table) (c : Call) (z : refusal t c ≡ 0) where
   task-kept h i is after m who waits p q same own w =
       let states : set (t .state) i (after .state) ≡ t .state = ap (set (t .state) i) same ∙ set-own (t .state) i in
       let elects : t .elected ≡ electedBy (held (t .holder)) (set (t .state) i (after .state)) (t .priority) = sym elected-same ∙ sym (rw states (election-by _ _ _)) in
-      rw own (task-done h i is after m (held (t .holder)) (t .elected) waits p q refl elects w)
+      rw own (task-done h i is after m (held (t .holder)) (t .elected) waits p q refl elects w (still-runs t c facts i is after p same))
 
   -- ENTER and EXIT
   pub region-done : 5 < c .operation → c .operation < 8 → (entry v who status : ℕ) → entry ≡ holderAfter c (getD (t .holder) (c .a) 0)
@@ -198,25 +206,22 @@ module _ (t : Table) (c : Call) (z : refusal t c ≡ 0) where
       retrieve-done value key status who es cs q r s w none own =
           rw (none, own, q, r, s, w) (sym (accepted-is t c z ∙ ap accepted taken ∙ ap (stored t _ _ _ 0 _ _) elected-same))
 
--- a call that is neither of the first eight nor SEND is RETRIEVE
-pub retrieve-is : (t : Table) (c : Call) → refusal t c ≡ 0 → 8 ≤ c .operation → (c .operation ≡ SEND → ⊥) → c .operation ≡ RETRIEVE
-retrieve-is t c z l n =
-    let most = ltb-false 9 (c .operation) (accepted-facts t c z .known) in
-    let other : c .operation ≢ SEND = n in
-    omega arith
+-- a call between EXIT and ARM that isn't SEND is RETRIEVE
+pub retrieve-is : (c : Call) → 8 ≤ c .operation → c .operation < 10 → (c .operation ≡ SEND → ⊥) → c .operation ≡ RETRIEVE
+retrieve-is c l h n = let other : c .operation ≢ SEND = n in omega arith
 
 -- what the code's sums and indices need: the queue's places lie in the store
 pub record Fits (t : Table) (c : Call) : Type 0 where
   pub queue-small : c .a < 8
   pub length-small : lengthOf t (c .a) ≤ 64
 
-pub queue-fits : (t : Table) (c : Call) → refusal t c ≡ 0 → 8 ≤ c .operation → Fits t c
-queue-fits t c z l = go (eqb (c .operation) SEND) refl
+pub queue-fits : (t : Table) (c : Call) → refusal t c ≡ 0 → 8 ≤ c .operation → c .operation < 10 → Fits t c
+queue-fits t c z l m = go (eqb (c .operation) SEND) refl
   where
     go : (b : Bool) → eqb (c .operation) SEND ≡ b → Fits t c
     go true h = let e = eqb-true (c .operation) SEND h in record { queue-small = within-room t c z e; length-small = queue t c z e .short }
     go false h =
-        let e = retrieve-is t c z l (eqb-false (c .operation) SEND h) in
+        let e = retrieve-is c l m (eqb-false (c .operation) SEND h) in
         record { queue-small = within-store t c z e; length-small = from-queue t c z e .short }
 
 -- a queue that gives an element has one

@@ -1,12 +1,15 @@
--- The first six operations as one change of one task, and ENTER and EXIT as one change of one region's entry, for the code's shape.
+-- The first six operations as one change of one task, ENTER and EXIT as one of one region's entry, and ARM and DISARM as one of one
+-- timer, for the code's shape.
 use Prim.Native.Nat.{ℕ, _%_}
 use mathlib.Core.Bool.{cond}
 use lib.Dec.{eqb, ltb}
 use Rattle.rules.specs.declared.Task.{Task}
+use Rattle.rules.specs.declared.Timer.{Timer}
 use Rattle.rules.specs.declared.Call.{Call}
-use Rattle.rules.specs.Numbers.{START, SIGNAL, WAIT, CLEAR, ENTER}
+use Rattle.rules.specs.Numbers.{START, SIGNAL, WAIT, CLEAR, ENTER, ARM}
 use Rattle.rules.specs.Tasks.{asStarted, asStopped, signalled, waited, asCleared}
 use Rattle.rules.specs.Regions.{entered, exited}
+use Rattle.rules.specs.Timers.{later, asArmed, disarmed}
 
 -- which task a call changes
 unfoldable pub target : Call → ℕ
@@ -23,3 +26,8 @@ taskAfter c r =
 -- a region's entry after ENTER or EXIT
 unfoldable pub holderAfter : Call → ℕ → ℕ
 holderAfter c h = cond (eqb (c .operation) ENTER) (entered (c .caller) h) (exited (c .caller) h)
+
+-- a timer after ARM or DISARM; an event that exists fits, so that the remainder changes nothing
+unfoldable pub timerAfter : Call → ℕ → Timer → Timer
+timerAfter c ticks r =
+    cond (eqb (c .operation) ARM) (asArmed (c .caller) (c .b % 256) (later ticks (c .c)) r) (disarmed (c .caller) r)

@@ -1,14 +1,16 @@
-// What an accepted call does to one task or one region.
+// What an accepted call does to one task, one region or one timer.
 use rules::Call;
 use rules::Task;
+use rules::Timer;
 use tasks::met_by;
+use tasks::signalled_by;
+use timers::armed_timer;
+use timers::disarmed_timer;
+use timers::later_by;
 ghost use mathlib.Core.Path.{_≡_};
-ghost use mathlib.Core.Bool.{cond};
-ghost use Prim.Native.Nat.{_+_, _%_, _<_};
-ghost use lib.Dec.{eqb};
-ghost use Rattle.rules.specs.Tasks.{woken, signalled, waited, asCleared};
-ghost use Rattle.rules.specs.Regions.{exited};
-ghost use Rattle.calls.specs.Effects.{target, taskAfter, holderAfter};
+ghost use Prim.Native.Nat.{_<_};
+ghost use Rattle.rules.specs.Tasks.{waited, asCleared};
+ghost use Rattle.calls.specs.Effects.{target, taskAfter, holderAfter, timerAfter};
 
 // Which task the call changes: the one that START, STOP and SIGNAL name, else the caller.
 pub(crate) fn target_of(k: Call) -> u32
@@ -22,29 +24,6 @@ pub(crate) fn target_of(k: Call) -> u32
         return k.b;
     }
     k.caller as u32
-}
-
-// Event e of a 16-bit list; e is taken modulo 16, so that the shift has a meaning for every number.
-fn signalled_by(e: u32, r: Task) -> Task
-    ensures { λ r1. ⌜ r1 ≡ signalled (e % 16) r ⌝ }
-{
-    let one: u16 = 1;
-    let arrived = r.arrived | (one << (e % 16));
-    let wakes = (r.state == 2) & met_by(r.operator, r.list, arrived);
-    if wakes {
-        return Task {
-            state: 1,
-            arrived: arrived, // waking doesn't clear events
-            list: 0,
-            operator: 0,
-        };
-    }
-    Task {
-        state: r.state,
-        arrived: arrived,
-        list: r.list,
-        operator: r.operator,
-    }
 }
 
 fn waited_by(list: u16, operator: u8, r: Task) -> Task
@@ -107,4 +86,15 @@ pub(crate) fn holder_after(k: Call, h: u8) -> u8
         return mine;
     }
     if h == mine { 0 } else { h }
+}
+
+// The timer after ARM or DISARM.
+pub(crate) fn timer_after(k: Call, ticks: u32, r: Timer) -> Timer
+    ensures { λ r1. ⌜ r1 ≡ timerAfter k ticks r ⌝ }
+{
+    let date = later_by(ticks, k.c);
+    if k.operation == 10 {
+        return armed_timer(k.caller, (k.b % 256) as u8, date);
+    }
+    disarmed_timer(k.caller, r)
 }

@@ -4,6 +4,7 @@ mod effect;
 use effect::holder_after;
 use effect::target_of;
 use effect::task_after;
+use effect::timer_after;
 use queues::close_criteria;
 use queues::close_elements;
 use queues::place_of;
@@ -18,14 +19,21 @@ use rules::Task;
 use tasks::elected_by;
 use tasks::held_by;
 use tasks::met_by;
+use timers::Rows;
+use timers::disarmed_all;
+use timers::later_by;
+use timers::rung_all;
+use timers::rung_rows;
 ghost use mathlib.Core.Path.{_≡_};
 ghost use Rattle.rules.specs.Step.{step};
 
 // The table stays in this one function from the first look to the last store, and has one way out of it: each pass of it to another
-// function may copy it, and so may each further end. Nobody is elected afresh where a task keeps its state, or after SEND and RETRIEVE.
+// function may copy it, and so may each further end. Nobody is elected afresh where a task keeps its state, or after SEND, RETRIEVE,
+// ARM and DISARM. A task that STOP or END names isn't stopped yet, so that its timers need a look only where its state changes.
 pub fn call(mut t: Table, k: Call) -> Done
     ensures { λ r. ⌜ r ≡ step t k ⌝ }
 {
+    let timers = t.timers;
     let status = refusal_of(
         t.tasks,
         t.regions,
@@ -41,6 +49,8 @@ pub fn call(mut t: Table, k: Call) -> Done
         &t.length,
         &t.element,
         &t.criterion,
+        t.ticks,
+        timers,
         k,
     );
     let mut said = status;
@@ -69,6 +79,9 @@ pub fn call(mut t: Table, k: Call) -> Done
                 let next = elected_by(v, &t.state, &t.priority);
                 t.elected = next;
                 who = next;
+                if (operation == 1) | (operation == 2) {
+                    t.timers = disarmed_all(i as u8, timers);
+                }
             }
         } else {
             let at = k.a as usize;
@@ -77,7 +90,7 @@ pub fn call(mut t: Table, k: Call) -> Done
                 let v = held_by(&t.holder);
                 who = elected_by(v, &t.state, &t.priority);
                 t.elected = who;
-            } else {
+            } else if operation < 10 {
                 let n = t.length[at];
                 let from = at * 64;
                 let end = from + (n as usize);
@@ -93,6 +106,38 @@ pub fn call(mut t: Table, k: Call) -> Done
                     close_criteria(&mut t.criterion, place, end);
                     t.length[at] = n - 1;
                 }
+            } else if operation < 12 {
+                t.timers[at] = timer_after(k, t.ticks, t.timers[at]);
+            } else {
+                let now = later_by(t.ticks, 1);
+                let state = t.state;
+                let arrived = t.arrived;
+                let list = t.list;
+                let operator = t.operator;
+                let rows = rung_rows(
+                    now,
+                    timers,
+                    Rows {
+                        state: state,
+                        arrived: arrived,
+                        list: list,
+                        operator: operator,
+                    },
+                );
+                let state = rows.state;
+                let arrived = rows.arrived;
+                let list = rows.list;
+                let operator = rows.operator;
+                t.state = state;
+                t.arrived = arrived;
+                t.list = list;
+                t.operator = operator;
+                t.timers = rung_all(now, timers);
+                t.ticks = now;
+                let holds = held_by(&t.holder);
+                let runs = elected_by(holds, &t.state, &t.priority);
+                t.elected = runs;
+                who = runs;
             }
         }
     }

@@ -3,9 +3,10 @@ use Prim.Native.Nat.{ℕ}
 use mathlib.Core.List.{List, [], _∷_}
 use lib.ListN.{replicate}
 use Rattle.rules.specs.declared.Table.{Table}
-use Rattle.rules.specs.Numbers.{taskRoom, regionRoom, queueRoom, storeSize}
+use Rattle.rules.specs.Numbers.{taskRoom, regionRoom, queueRoom, storeSize, timerRoom}
 use Rattle.rules.specs.Words.{padded}
 use Rattle.rules.specs.Tasks.{stopped, ready}
+use Rattle.rules.specs.Timers.{idle}
 
 abbrev pub freshBy : ℕ → ℕ → ℕ → List ℕ → List ℕ → Table
 freshBy tasks regions queues priority bound =
@@ -24,4 +25,6 @@ freshBy tasks regions queues priority bound =
       length = replicate queueRoom 0;
       element = replicate storeSize 0;
       criterion = replicate storeSize 0;
+      ticks = 0;
+      timers = replicate timerRoom idle;
     }

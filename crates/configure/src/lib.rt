@@ -3,6 +3,7 @@ use refusals::counts_right;
 use rules::Answer;
 use rules::Done;
 use rules::Table;
+use rules::Timer;
 ghost use mathlib.Core.Path.{_≡_};
 ghost use mathlib.Core.Bool.{true};
 ghost use Prim.Native.Nat.{_≤_};
@@ -76,6 +77,13 @@ fn zero_table() -> Table
         length: [0; 8],
         element: [0; 512],
         criterion: [0; 512],
+        ticks: 0,
+        timers: [Timer {
+            armed: 0,
+            owner: 0,
+            event: 0,
+            date: 0,
+        }; 16],
     }
 }
 
@@ -93,7 +101,7 @@ fn out_of_range() -> Done
     }
 }
 
-// Task 0 is ready and elected, the others are stopped, regions free and queues empty.
+// Task 0 is ready and elected, the others are stopped, regions free, queues empty, timers idle and the counter 0.
 fn fresh_table(tasks: u8, regions: u8, queues: u8, priority: [u8; 32], bound: [u8; 8]) -> Table
     ensures { λ r. ⌜ r ≡ freshBy tasks regions queues priority bound ⌝ }
 {
@@ -114,6 +122,13 @@ fn fresh_table(tasks: u8, regions: u8, queues: u8, priority: [u8; 32], bound: [u
         length: [0; 8],
         element: [0; 512],
         criterion: [0; 512],
+        ticks: 0,
+        timers: [Timer {
+            armed: 0,
+            owner: 0,
+            event: 0,
+            date: 0,
+        }; 16],
     }
 }
 

@@ -76,6 +76,7 @@ fn arrived_status(ok: bool, elected: u8, caller: u8, list: u32, operator: u32) -
 fn is_valid(t: Table) -> bool
     ensures { λ r. ⌜ r ≡ valid t ⌝ }
 {
+    let timers = t.timers;
     valid_of(
         t.tasks,
         t.regions,
@@ -91,6 +92,8 @@ fn is_valid(t: Table) -> bool
         &t.length,
         &t.element,
         &t.criterion,
+        t.ticks,
+        timers,
     )
 }
 

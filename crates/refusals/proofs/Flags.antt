@@ -5,21 +5,23 @@ use mathlib.Core.Logic.{_≢_}
 use mathlib.Core.Bool.{Bool, true, false, not, _&&_, _||_, or-false}
 use mathlib.Core.List.{List, [], _∷_}
 use native.Mathlib.Omega.{arith}
-use lib.Dec.{eqb}
+use lib.Dec.{eqb, ltb}
 use lib.ListN.{getD, length, List·getD-eq-default}
-use borrow.Author.Tests.{ne-eqb}
+use borrow.Author.Tests.{eqb-true, eqb-false, ne-eqb, ltb-true, ltb-false}
+use Rattle.rules.specs.declared.Timer.{Timer}
 use Rattle.rules.specs.declared.Call.{Call}
 use Rattle.rules.specs.Words.{byOperation}
-use Rattle.rules.specs.Numbers.{WAIT, SEND, RETRIEVE}
+use Rattle.rules.specs.Numbers.{WAIT, SEND, RETRIEVE, ARM, DISARM, TICK}
 use Rattle.rules.specs.Words.{first}
-use Rattle.rules.specs.Refusals.{wrongState, leaves, missing}
-use Rattle.refusals.specs.Late.{lacking, taskFlags, queueFlags, lateFlags}
+use Rattle.rules.specs.Refusals.{othersAt, wrongState, leaves, missing}
+use Rattle.rules.proofs.Effects.{upto}
+use Rattle.refusals.specs.Late.{lacking, wrongTask, taskFlags, queueFlags, timerFlags, lateFlags}
 
 -- a number past the named ones is none of them
 none-of : (n k : ℕ) → k < n → eqb n k ≡ false
 none-of n k h = ne-eqb n k (omega arith)
 
--- 15: by the states of the tasks that a and b name
+-- 15 of the calls about tasks: by the states of the tasks that a and b name
 wrong : (n : ℕ) (a b : Bool)
     → ((eqb n 0 && not a) || ((eqb n 1 && a) || (eqb n 3 && b))) ≡ byOperation false n (not a ∷ a ∷ false ∷ b ∷ [])
 wrong zero a b = or-false (not a)
@@ -32,8 +34,8 @@ wrong (suc (suc (suc (suc n)))) a b =
 
 pub wrong-is : (states : List ℕ) (c : Call) (x y : ℕ) → x ≡ getD states (c .a) 0 → y ≡ getD states (c .b) 0
     → ((eqb (c .operation) 0 && not (eqb x 0)) || ((eqb (c .operation) 1 && eqb x 0) || (eqb (c .operation) 3 && eqb y 0)))
-    ≡ wrongState states c
-unfolding wrongState
+    ≡ wrongTask states c
+unfolding wrongTask
 wrong-is states c x y p q = wrong (c .operation) (eqb x 0) (eqb y 0) ∙ rw (p, q) refl
 
 -- 16: STOP of oneself, END, WAIT
@@ -49,7 +51,7 @@ leaves-is (suc (suc (suc (suc (suc n))))) a =
     rw (none-of m 1 (omega arith), none-of m 2 (omega arith), none-of m 4 (omega arith)) refl
 
 -- 14 does not apply to a number that is no operation
-pub missing-past : (tasks regions queues : ℕ) (c : Call) → 10 ≤ c .operation → false ≡ missing tasks regions queues c
+pub missing-past : (tasks regions queues : ℕ) (c : Call) → 13 ≤ c .operation → false ≡ missing tasks regions queues c
 unfolding missing
 missing-past tasks regions queues c h = rw List·getD-eq-default
 
@@ -58,32 +60,74 @@ past-end l i h = sym (List·getD-eq-default l 0 h)
 
 -- ---- the reasons from 14 on, by the kind of the call
 
-wrong-past : (states : List ℕ) (c : Call) → 7 < c .operation → wrongState states c ≡ false
+-- before ARM, 15 is about tasks
+wrong-below : (states : List ℕ) (timers : List Timer) (c : Call) → c .operation < ARM → wrongState states timers c ≡ wrongTask states c
+unfolding wrongState wrongTask
+wrong-below states timers c h =
+    upto ARM (λ n. c .operation ≡ n → wrongState states timers c ≡ wrongTask states c) (
+      λ e. rw e refl,
+      (λ e. rw e refl, (λ e. rw e refl, (λ e. rw e refl, (λ e. rw e refl, (λ e. rw e refl, (λ e. rw e refl, (λ e. rw e refl, (λ e. rw e refl, (λ e. rw e refl, tt))))))))),
+    )
+    (c .operation) h refl
+
+-- from ARM on, about timers
+wrong-timer : (states : List ℕ) (timers : List Timer) (c : Call) → ARM ≤ c .operation
+    → wrongState states timers c ≡ (ltb (c .operation) TICK && othersAt timers (c .caller) (c .a))
 unfolding wrongState
-wrong-past states c h = let past : 4 ≤ c .operation = omega arith in rw List·getD-eq-default
+wrong-timer states timers c h = go (ltb (c .operation) TICK) (eqb (c .operation) ARM) refl refl
+  where
+    go : (b d : Bool) → ltb (c .operation) TICK ≡ b → eqb (c .operation) ARM ≡ d
+        → wrongState states timers c ≡ (ltb (c .operation) TICK && othersAt timers (c .caller) (c .a))
+    go true true e f = rw (eqb-true (c .operation) ARM f) refl
+    go true false e f =
+        let least = eqb-false (c .operation) ARM f in
+        let most = ltb-true (c .operation) TICK e in
+        let last : c .operation ≡ DISARM = omega arith in
+        rw last refl
+    go false d e f = let past = ltb-false (c .operation) TICK e in rw (e, List·getD-eq-default)
+
+wrong-queue : (states : List ℕ) (timers : List Timer) (c : Call) → 7 < c .operation → c .operation < ARM → wrongState states timers c ≡ false
+unfolding wrongTask
+wrong-queue states timers c l h =
+    wrong-below states timers c h ∙ (let past : 4 ≤ c .operation = omega arith in rw List·getD-eq-default)
 
 leaves-past : (c : Call) → 7 < c .operation → leaves c ≡ false
 unfolding leaves
 leaves-past c h = let past : 5 ≤ c .operation = omega arith in rw List·getD-eq-default
 
-lacking-below : (lengths criterion : List ℕ) (c : Call) → c .operation ≤ 7 → lacking lengths criterion c ≡ false
+lacking-other : (lengths criterion : List ℕ) (c : Call) → c .operation ≢ RETRIEVE → lacking lengths criterion c ≡ false
 unfolding lacking
-lacking-below lengths criterion c h = rw (ne-eqb (c .operation) RETRIEVE (omega arith))
+lacking-other lengths criterion c h = rw (ne-eqb (c .operation) RETRIEVE h)
 
-module _ (tasks regions queues : ℕ) (state holder bound lengths criterion : List ℕ) (c : Call) where
-  pub late-missing : missing tasks regions queues c ≡ true → 14 ≡ first (lateFlags tasks regions queues state holder bound lengths criterion c)
+module _ (tasks regions queues : ℕ) (state holder bound lengths criterion : List ℕ) (timers : List Timer) (c : Call) where
+  pub late-missing : missing tasks regions queues c ≡ true → 14 ≡ first (lateFlags tasks regions queues state holder bound lengths criterion timers c)
   unfolding lateFlags
   late-missing m = rw m refl
 
-  pub late-queue : missing tasks regions queues c ≡ false → 7 < c .operation → (r : ℕ) → r ≡ first (queueFlags bound lengths criterion c)
-      → r ≡ first (lateFlags tasks regions queues state holder bound lengths criterion c)
+  pub late-timer : missing tasks regions queues c ≡ false → 9 < c .operation → (r : ℕ) → r ≡ first (timerFlags timers c)
+      → r ≡ first (lateFlags tasks regions queues state holder bound lengths criterion timers c)
+  unfolding lateFlags timerFlags
+  late-timer m h r p =
+      rw (
+        m,
+        ne-eqb (c .operation) WAIT (omega arith),
+        wrong-timer state timers c h,
+        leaves-past c (omega arith),
+        ne-eqb (c .operation) SEND (omega arith),
+        lacking-other lengths criterion c (omega arith),
+      )
+      p
+
+  pub late-queue : missing tasks regions queues c ≡ false → 7 < c .operation → c .operation ≤ 9 → (r : ℕ) → r ≡ first (queueFlags bound lengths criterion c)
+      → r ≡ first (lateFlags tasks regions queues state holder bound lengths criterion timers c)
   unfolding lateFlags queueFlags
-  late-queue m h r p = rw (m, ne-eqb (c .operation) WAIT (omega arith), wrong-past state c h, leaves-past c h) p
+  late-queue m l h r p = rw (m, ne-eqb (c .operation) WAIT (omega arith), wrong-queue state timers c l (omega arith), leaves-past c l) p
 
   pub late-task : missing tasks regions queues c ≡ false → c .operation ≤ 7 → (r : ℕ) → r ≡ first (taskFlags state holder c)
-      → r ≡ first (lateFlags tasks regions queues state holder bound lengths criterion c)
+      → r ≡ first (lateFlags tasks regions queues state holder bound lengths criterion timers c)
   unfolding lateFlags taskFlags
-  late-task m h r p = rw (m, ne-eqb (c .operation) SEND (omega arith), lacking-below lengths criterion c h) p
+  late-task m h r p =
+      rw (m, wrong-below state timers c (omega arith), ne-eqb (c .operation) SEND (omega arith), lacking-other lengths criterion c (omega arith)) p
 
 -- ---- a match that names the first n numbers has left them all out
 

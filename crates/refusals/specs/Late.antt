@@ -4,11 +4,12 @@ use mathlib.Core.Bool.{Bool, false, cond, not, _&&_}
 use mathlib.Core.List.{List, [], _∷_}
 use lib.Dec.{eqb, ltb, leb}
 use lib.ListN.{getD}
+use Rattle.rules.specs.declared.Timer.{Timer}
 use Rattle.rules.specs.declared.Call.{Call}
-use Rattle.rules.specs.Numbers.{queueRoom, places, WAIT, SEND, RETRIEVE}
-use Rattle.rules.specs.Words.{isZero, Reason, when}
+use Rattle.rules.specs.Numbers.{queueRoom, places, WAIT, SEND, RETRIEVE, TICK}
+use Rattle.rules.specs.Words.{isZero, byOperation, Reason, when}
 use Rattle.rules.specs.Regions.{held}
-use Rattle.rules.specs.Refusals.{missing, badOperator, wrongState, leaves}
+use Rattle.rules.specs.Refusals.{missing, badOperator, stoppedAt, othersAt, wrongState, leaves}
 use Rattle.queues.specs.Places.{placeIn}
 
 -- 18 by places of the store: the place found is the end of the queue
@@ -19,11 +20,17 @@ lacking lengths criterion c =
     (placeIn (c .a * places) (c .a * places + getD lengths (c .a) 0) (c .c) criterion))
     false
 
+-- 15 of a call about tasks: START, STOP, END, SIGNAL
+unfoldable pub wrongTask : List ℕ → Call → Bool
+wrongTask states c =
+    byOperation false (c .operation)
+    (not (stoppedAt states (c .a)) ∷ stoppedAt states (c .a) ∷ false ∷ stoppedAt states (c .b) ∷ [])
+
 -- those of a call about tasks or regions, once 14 is ruled out
 unfoldable pub taskFlags : List ℕ → List ℕ → Call → List Reason
 taskFlags state holder c =
     when 19 (eqb (c .operation) WAIT && badOperator (c .b))
-    ∷ when 15 (wrongState state c)
+    ∷ when 15 (wrongTask state c)
     ∷ when 16 (leaves c && not (isZero (held holder)))
     ∷ []
 
@@ -34,11 +41,15 @@ queueFlags bound lengths criterion c =
     ∷ when 18 (lacking lengths criterion c)
     ∷ []
 
-unfoldable pub lateFlags : ℕ → ℕ → ℕ → List ℕ → List ℕ → List ℕ → List ℕ → List ℕ → Call → List Reason
-lateFlags tasks regions queues state holder bound lengths criterion c =
+-- that of ARM and DISARM; TICK and whatever comes behind it have none
+unfoldable pub timerFlags : List Timer → Call → List Reason
+timerFlags timers c = when 15 (ltb (c .operation) TICK && othersAt timers (c .caller) (c .a)) ∷ []
+
+unfoldable pub lateFlags : ℕ → ℕ → ℕ → List ℕ → List ℕ → List ℕ → List ℕ → List ℕ → List Timer → Call → List Reason
+lateFlags tasks regions queues state holder bound lengths criterion timers c =
     when 14 (missing tasks regions queues c)
     ∷ when 19 (eqb (c .operation) WAIT && badOperator (c .b))
-    ∷ when 15 (wrongState state c)
+    ∷ when 15 (wrongState state timers c)
     ∷ when 16 (leaves c && not (isZero (held holder)))
     ∷ when 17 (eqb (c .operation) SEND && leb (getD bound (c .a) 0) (getD lengths (c .a) 0))
     ∷ when 18 (lacking lengths criterion c)

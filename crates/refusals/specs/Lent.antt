@@ -3,10 +3,11 @@ use Prim.Native.Nat.{ℕ}
 use mathlib.Core.Path.{_≡_}
 use mathlib.Core.List.{List}
 use lib.ListN.{length}
+use Rattle.rules.specs.declared.Timer.{Timer}
 use Rattle.rules.specs.declared.Table.{Table}
 
-abbrev pub lent : ℕ → ℕ → ℕ → ℕ → List ℕ → List ℕ → List ℕ → List ℕ → List ℕ → List ℕ → List ℕ → List ℕ → List ℕ → List ℕ → Table
-lent tasks regions queues elected priority state arrived list operator holder bound lengths element criterion =
+abbrev pub lent : ℕ → ℕ → ℕ → ℕ → List ℕ → List ℕ → List ℕ → List ℕ → List ℕ → List ℕ → List ℕ → List ℕ → List ℕ → List ℕ → ℕ → List Timer → Table
+lent tasks regions queues elected priority state arrived list operator holder bound lengths element criterion ticks timers =
     record {
       tasks = tasks;
       regions = regions;
@@ -22,6 +23,8 @@ lent tasks regions queues elected priority state arrived list operator holder bo
       length = lengths;
       element = element;
       criterion = criterion;
+      ticks = ticks;
+      timers = timers;
     }
 
 -- the lengths that the types of the lent arrays give

@@ -3,7 +3,9 @@ use super::choice::pick;
 use super::validity::valid_of;
 use queues::place_of;
 use rules::Call;
+use rules::Timer;
 use tasks::held_by;
+use timers::others_at;
 ghost use mathlib.Core.Path.{_≡_};
 ghost use mathlib.Core.Bool.{not, _&&_};
 ghost use mathlib.Core.List.{[], _∷_};
@@ -11,20 +13,22 @@ ghost use lib.Dec.{eqb, ltb, leb};
 ghost use lib.ListN.{length, getD};
 ghost use Rattle.rules.specs.Words.{isZero, when, first};
 ghost use Rattle.rules.specs.Regions.{held};
-ghost use Rattle.rules.specs.Refusals.{outsideBarred, notElected, missing, wrongState, leaves, refusal};
+ghost use Rattle.rules.specs.Refusals.{outsideBarred, notElected, tickByTask, missing, leaves, refusal};
 ghost use Rattle.refusals.specs.Lent.{lent};
-ghost use Rattle.refusals.specs.Late.{lacking, taskFlags, queueFlags, lateFlags};
+ghost use Rattle.refusals.specs.Late.{lacking, wrongTask, taskFlags, queueFlags, timerFlags, lateFlags};
 
-// 10, 11, 13 and 12: what is refused before the call's numbers are looked at; 0 where none applies.
+// 10, 11, 13, 12, and 13 for a TICK by the elected task: what is refused before the call's numbers are looked at; 0 where none applies.
 fn early_of(ok: bool, elected: u8, k: Call) -> u8
-    ensures { λ r. ⌜ r ≡ first (when 10 (not ok) ∷ when 11 (ltb 9 (k .operation)) ∷ when 13 (outsideBarred k) ∷ when 12 (notElected elected (k .caller)) ∷ []) ⌝ }
+    ensures { λ r. ⌜ r ≡ first (when 10 (not ok) ∷ when 11 (ltb 12 (k .operation)) ∷ when 13 (outsideBarred k) ∷ when 12 (notElected elected (k .caller)) ∷ when 13 (tickByTask k) ∷ []) ⌝ }
 {
     let outside = k.caller == 255;
-    let barred = outside & !(k.operation == 3);
+    let tick = k.operation == 12;
+    let barred = outside & !((k.operation == 3) | tick);
     let other = !outside & !(k.caller == elected);
-    let r12 = pick(other, 12, 0);
+    let last = pick(tick & !outside, 13, 0);
+    let r12 = pick(other, 12, last);
     let r13 = pick(barred, 13, r12);
-    let r11 = pick(9 < k.operation, 11, r13);
+    let r11 = pick(12 < k.operation, 11, r13);
     pick(!ok, 10, r11)
 }
 
@@ -45,6 +49,9 @@ fn missing_of(tasks: u8, regions: u8, queues: u8, k: Call) -> bool
         7 => !(a < (regions as u32)),
         8 => !(a < (queues as u32)) | !(k.c < 16),
         9 => !(a < (queues as u32)) | (16 < k.c),
+        10 => !(a < 16) | (!(k.b < 16) | ((k.c == 0) | (2147483647 < k.c))),
+        11 => !(a < 16),
+        12 => false,
         _ => false,
     }
 }
@@ -67,10 +74,10 @@ pub fn entry_at(entries: &[u8; 8], q: u32) -> u8
     if at < 8 { entries[at] } else { 0 }
 }
 
-// 15: START of a task not stopped, STOP or SIGNAL of a stopped one.
-fn wrong_state_of(state: &[u8; 32], k: Call) -> bool
+// 15 of the calls about tasks: START of a task not stopped, STOP or SIGNAL of a stopped one.
+fn wrong_task_of(state: &[u8; 32], k: Call) -> bool
     requires { ⌜ length (now state) ≡ 32 ⌝ }
-    ensures { λ r. ⌜ r ≡ wrongState (now (state .entry)) k ⌝ }
+    ensures { λ r. ⌜ r ≡ wrongTask (now (state .entry)) k ⌝ }
 {
     let operation = k.operation;
     let a = state_at(state, k.a) == 0;
@@ -130,7 +137,7 @@ fn task_reason_of<'a>(state: &'a [u8; 32], holder: &'a [u8; 16], k: Call) -> u8
     ensures { λ r. ⌜ r ≡ first (taskFlags (now (state .entry)) (now (holder .entry)) k) ⌝ }
 {
     let r16 = pick(inside_of(holder, k), 16, 0);
-    let r15 = pick(wrong_state_of(state, k), 15, r16);
+    let r15 = pick(wrong_task_of(state, k), 15, r16);
     pick((k.operation == 4) & (1 < k.b), 19, r15)
 }
 
@@ -150,6 +157,14 @@ fn queue_reason_of<'a>(
     pick(full_of(bound, lengths, k), 17, r18)
 }
 
+// 15 of the calls about timers: ARM and DISARM of one that another task has armed.
+fn timer_reason_of(timers: [Timer; 16], k: Call) -> u8
+    ensures { λ r. ⌜ r ≡ first (timerFlags timers k) ⌝ }
+{
+    let others = others_at(timers, k.caller, k.a);
+    pick((k.operation < 12) & others, 15, 0)
+}
+
 // The reasons from 14 on, and only those that the operation can meet. The table is valid here, so that a queue that exists has its
 // places in the store.
 fn late_of<'a>(
@@ -161,6 +176,7 @@ fn late_of<'a>(
     bound: &'a [u8; 8],
     lengths: &'a [u8; 8],
     criterion: &'a [u8; 512],
+    timers: [Timer; 16],
     k: Call,
 ) -> u8
     requires { ⌜ length (now state) ≡ 32 ⌝ }
@@ -168,10 +184,13 @@ fn late_of<'a>(
     requires { ⌜ length (now bound) ≡ 8 ⌝ }
     requires { ⌜ length (now lengths) ≡ 8 ⌝ }
     requires { ⌜ length (now criterion) ≡ 512 ⌝ }
-    ensures { λ r. ⌜ r ≡ first (lateFlags tasks regions queues (now (state .entry)) (now (holder .entry)) (now (bound .entry)) (now (lengths .entry)) (now (criterion .entry)) k) ⌝ }
+    ensures { λ r. ⌜ r ≡ first (lateFlags tasks regions queues (now (state .entry)) (now (holder .entry)) (now (bound .entry)) (now (lengths .entry)) (now (criterion .entry)) timers k) ⌝ }
 {
     if missing_of(tasks, regions, queues, k) {
         return 14;
+    }
+    if 9 < k.operation {
+        return timer_reason_of(timers, k);
     }
     if 7 < k.operation {
         return queue_reason_of(bound, lengths, criterion, k);
@@ -195,6 +214,8 @@ pub fn refusal_of<'a>(
     lengths: &'a [u8; 8],
     element: &'a [u32; 512],
     criterion: &'a [u8; 512],
+    ticks: u32,
+    timers: [Timer; 16],
     k: Call,
 ) -> u8
     requires { ⌜ length (now priority) ≡ 32 ⌝ }
@@ -207,7 +228,7 @@ pub fn refusal_of<'a>(
     requires { ⌜ length (now lengths) ≡ 8 ⌝ }
     requires { ⌜ length (now element) ≡ 512 ⌝ }
     requires { ⌜ length (now criterion) ≡ 512 ⌝ }
-    ensures { λ r. ⌜ r ≡ refusal (lent tasks regions queues elected (now (priority .entry)) (now (state .entry)) (now (arrived .entry)) (now (list .entry)) (now (operator .entry)) (now (holder .entry)) (now (bound .entry)) (now (lengths .entry)) (now (element .entry)) (now (criterion .entry))) k ⌝ }
+    ensures { λ r. ⌜ r ≡ refusal (lent tasks regions queues elected (now (priority .entry)) (now (state .entry)) (now (arrived .entry)) (now (list .entry)) (now (operator .entry)) (now (holder .entry)) (now (bound .entry)) (now (lengths .entry)) (now (element .entry)) (now (criterion .entry)) ticks timers) k ⌝ }
 {
     let ok = valid_of(
         tasks,
@@ -224,6 +245,8 @@ pub fn refusal_of<'a>(
         lengths,
         element,
         criterion,
+        ticks,
+        timers,
     );
     let early = early_of(ok, elected, k);
     if early != 0 {
@@ -238,6 +261,7 @@ pub fn refusal_of<'a>(
         bound,
         lengths,
         criterion,
+        timers,
         k,
     )
 }

@@ -2,11 +2,13 @@
 use super::counts::counts_right;
 use queues::criteria_right;
 use queues::queues_right;
+use rules::Timer;
 use tasks::elected_by;
 use tasks::held_by;
 use tasks::holder_right;
 use tasks::regions_right;
 use tasks::tasks_right;
+use timers::timers_right;
 ghost use mathlib.Core.Path.{_≡_};
 ghost use lib.ListN.{length};
 ghost use Rattle.rules.specs.Validity.{valid};
@@ -28,6 +30,8 @@ pub fn valid_of<'a>(
     lengths: &'a [u8; 8],
     element: &'a [u32; 512],
     criterion: &'a [u8; 512],
+    ticks: u32,
+    timers: [Timer; 16],
 ) -> bool
     requires { ⌜ length (now priority) ≡ 32 ⌝ }
     requires { ⌜ length (now state) ≡ 32 ⌝ }
@@ -39,7 +43,7 @@ pub fn valid_of<'a>(
     requires { ⌜ length (now lengths) ≡ 8 ⌝ }
     requires { ⌜ length (now element) ≡ 512 ⌝ }
     requires { ⌜ length (now criterion) ≡ 512 ⌝ }
-    ensures { λ r. ⌜ r ≡ valid (lent tasks regions queues elected (now (priority .entry)) (now (state .entry)) (now (arrived .entry)) (now (list .entry)) (now (operator .entry)) (now (holder .entry)) (now (bound .entry)) (now (lengths .entry)) (now (element .entry)) (now (criterion .entry))) ⌝ }
+    ensures { λ r. ⌜ r ≡ valid (lent tasks regions queues elected (now (priority .entry)) (now (state .entry)) (now (arrived .entry)) (now (list .entry)) (now (operator .entry)) (now (holder .entry)) (now (bound .entry)) (now (lengths .entry)) (now (element .entry)) (now (criterion .entry)) ticks timers) ⌝ }
 {
     let counts = counts_right(tasks, regions, queues);
     let columns = tasks_right(tasks, priority, state, arrived, list, operator);
@@ -49,5 +53,6 @@ pub fn valid_of<'a>(
     let stores = queues_right(queues, bound, lengths, element, criterion);
     let criteria = criteria_right(criterion);
     let who = elected_by(v, state, priority);
-    counts & (columns & (held & (ready & (stores & (criteria & (elected == who))))))
+    let clock = timers_right(tasks, ticks, timers, state);
+    counts & (columns & (held & (ready & (stores & (criteria & ((elected == who) & clock))))))
 }

@@ -1,12 +1,12 @@
 -- Laws of the columns: what they say of a task once it, or another, is changed, and that two changes change places.
-use Prim.Native.Nat.{ℕ, _<_}
-use mathlib.Core.Path.{_≡_, refl, sym, ap, _∙_}
+use Prim.Native.Nat.{ℕ, _<_, _≤_}
+use mathlib.Core.Path.{_≡_, refl, sym, ap, _∙_, subst}
 use mathlib.Core.Logic.{_≢_}
 use mathlib.Core.Bool.{Bool, true, false}
-use lib.Dec.{eqb}
+use lib.Dec.{eqb, ltb}
 use lib.ListN.{length, length-set}
-use lib.Seq.{getD-set-same, getD-set-other, set-set, set-comm}
-use borrow.Author.Tests.{eqb-true, eqb-false}
+use lib.Seq.{getD-set-same, getD-set-other, set-set, set-comm, set-out}
+use borrow.Author.Tests.{eqb-true, eqb-false, ltb-true, ltb-false}
 use Rattle.rules.specs.declared.Task.{Task}
 use Rattle.rules.specs.declared.Table.{Table}
 use Rattle.rules.specs.Numbers.{taskRoom}
@@ -95,3 +95,35 @@ module _ (t : Table) (s : shaped t ≡ true) (i : ℕ) (h : i < taskRoom) where
           ap (λ r. withTask i (f r) (changed j g t)) (task-other j (g (taskOf t j)) t i (λ z. other (sym z)))
           ∙ with-comm i (f (taskOf t i)) t j (g (taskOf t j)) (λ z. other (sym z))
           ∙ ap (λ r. withTask j (g r) (changed i f t)) (sym (task-other i (f (taskOf t i)) t j other))
+
+-- the same for every number: one past the room changes nothing
+module _ (t : Table) (s : shaped t ≡ true) (i : ℕ) where
+  changed-past : (f : Task → Task) → taskRoom ≤ i → changed i f t ≡ t
+  changed-past f h =
+      let l = columns-long t s in
+      simp (
+        set-out (t .state) i (f (taskOf t i) .state) (rw (l .state) h),
+        set-out (t .arrived) i (f (taskOf t i) .arrived) (rw (l .arrived) h),
+        set-out (t .list) i (f (taskOf t i) .list) (rw (l .list) h),
+        set-out (t .operator) i (f (taskOf t i) .operator) (rw (l .operator) h),
+      )
+
+  -- what holds of f's task where it held before holds of each
+  pub changed-holds {ℓ} : (P : Task → Type ℓ) (f : Task → Task) → ((r : Task) → P r → P (f r)) → (j : ℕ) → P (taskOf t j) → P (taskOf (changed i f t) j)
+  changed-holds P f k j h = go (ltb i taskRoom) (eqb j i) refl refl
+    where
+      go : (b c : Bool) → ltb i taskRoom ≡ b → eqb j i ≡ c → P (taskOf (changed i f t) j)
+      go true true e w =
+          let same : j ≡ i = eqb-true j i w in
+          rw same (rw (changed-same t s i (ltb-true i taskRoom e) f) (k (taskOf t i) (rw same at h)))
+      go true false e w = rw (task-other i (f (taskOf t i)) t j (eqb-false j i w)) h
+      go false c e w = subst (λ u. P (taskOf u j)) (sym (changed-past f (ltb-false i taskRoom e))) h
+
+  -- what f keeps of each task
+  pub changed-leaves {ℓ} : {A : Type ℓ} (p : Task → A) (f : Task → Task) → ((r : Task) → p (f r) ≡ p r) → (j : ℕ)
+      → p (taskOf (changed i f t) j) ≡ p (taskOf t j)
+  changed-leaves p f k j = go (ltb i taskRoom) refl
+    where
+      go : (b : Bool) → ltb i taskRoom ≡ b → p (taskOf (changed i f t) j) ≡ p (taskOf t j)
+      go true e = changed-keeps t s i (ltb-true i taskRoom e) p f k j
+      go false e = ap (λ u. p (taskOf u j)) (changed-past f (ltb-false i taskRoom e))

@@ -1,21 +1,25 @@
 -- What each operation leaves alone, and a way to say a thing of each operation once.
 use Prim.Native.Nat.{ℕ, zero, suc, _<_, _≤_}
-use mathlib.Core.Path.{_≡_, refl, sym, ap}
+use mathlib.Core.Path.{_≡_, refl, sym, ap, _∙_}
 use mathlib.Core.Logic.{_≢_}
-use mathlib.Core.Bool.{Bool, true, false, _||_, false≢true}
-use mathlib.Core.List.{List}
+use mathlib.Core.Bool.{Bool, true, false, cond, not, _&&_, _||_, false≢true}
+use mathlib.Core.List.{List, [], _∷_}
 use native.Mathlib.Omega.{arith}
 use native.Mathlib.Nat.{le-of-suc-le-suc}
 use lib.Dec.{ltb, eqb}
 use lib.ListN.{length, List·getD-eq-default}
 use borrow.Author.Tests.{eq-eqb, ne-eqb, ltb-true, ltb-false}
+use Rattle.rules.specs.declared.Task.{Task}
+use Rattle.rules.specs.declared.Timer.{Timer}
 use Rattle.rules.specs.declared.Table.{Table}
 use Rattle.rules.specs.declared.Call.{Call}
-use Rattle.rules.specs.Numbers.{CLEAR, ENTER, EXIT, SEND}
+use Rattle.rules.specs.Numbers.{STOP, END, CLEAR, ENTER, EXIT, SEND, RETRIEVE, ARM, TICK}
 use Rattle.rules.specs.Words.{altered, byOperation}
+use Rattle.rules.specs.Tasks.{signalled}
 use Rattle.rules.specs.Regions.{entered, exited}
-use Rattle.rules.specs.Tables.{electionOf}
-use Rattle.rules.specs.Effects.{Effect, plain, nothing, exit, operations, effect}
+use Rattle.rules.specs.Timers.{later, isDue}
+use Rattle.rules.specs.Tables.{changed, electionOf}
+use Rattle.rules.specs.Effects.{Effect, plain, nothing, exit, ringing, ticked, operations, effect}
 
 -- ---- by operation
 
@@ -29,20 +33,33 @@ upto zero P p k h = absurd (omega arith)
 upto (suc n) P p zero h = p .0
 upto (suc n) P p (suc k) h = upto n (λ j. P (suc j)) (p .1) k (le-of-suc-le-suc h)
 
--- a number past the ten does nothing
+-- a number past the thirteen does nothing
 pub effect-past : (t : Table) (c : Call) → length operations ≤ c .operation → effect t c ≡ plain t
 unfolding effect
 effect-past t c h = ap (λ f. f t c) (List·getD-eq-default operations nothing h)
 
 -- what holds of each operation's effect, and of nothing done, holds of every call's effect
 pub each-effect {ℓ} : (t : Table) (c : Call) (P : ℕ → Effect → Type ℓ)
-    → Upto 10 (λ n. P n (byOperation nothing n operations t c)) → ((n : ℕ) → P n (plain t)) → P (c .operation) (effect t c)
+    → Upto 13 (λ n. P n (byOperation nothing n operations t c)) → ((n : ℕ) → P n (plain t)) → P (c .operation) (effect t c)
 unfolding effect
-each-effect t c P each none = go (ltb (c .operation) 10) refl
+each-effect t c P each none = go (ltb (c .operation) 13) refl
   where
-    go : (b : Bool) → ltb (c .operation) 10 ≡ b → P (c .operation) (effect t c)
-    go true h = upto 10 (λ n. P n (byOperation nothing n operations t c)) each (c .operation) (ltb-true (c .operation) 10 h)
-    go false h = rw (effect-past t c (ltb-false (c .operation) 10 h)) (none (c .operation))
+    go : (b : Bool) → ltb (c .operation) 13 ≡ b → P (c .operation) (effect t c)
+    go true h = upto 13 (λ n. P n (byOperation nothing n operations t c)) each (c .operation) (ltb-true (c .operation) 13 h)
+    go false h = rw (effect-past t c (ltb-false (c .operation) 13 h)) (none (c .operation))
+
+-- ---- due timers
+
+-- what no change of a task touches, no ringing touches
+pub ringing-same {ℓ} : {X : Type ℓ} (f : Table → X) → ((i : ℕ) (g : Task → Task) (t : Table) → f (changed i g t) ≡ f t) → (n : ℕ) (rs : List Timer) (t : Table)
+    → f (ringing n rs t) ≡ f t
+unfolding ringing
+ringing-same f k n [] t = refl
+ringing-same f k n (r ∷ rs) t = ringing-same f k n rs (cond (isDue n r) (changed (r .owner) (signalled (r .event)) t) t) ∙ go (isDue n r)
+  where
+    go : (b : Bool) → f (cond b (changed (r .owner) (signalled (r .event)) t) t) ≡ f t
+    go true = k (r .owner) (signalled (r .event)) t
+    go false = refl
 
 -- ---- what is left alone
 
@@ -91,37 +108,53 @@ contentsOf t = record { lengths = t .length; element = t .element; criterion = t
 module _ (t : Table) (c : Call) where
   -- no operation changes counts, priorities or bounds
   pub frame-kept : frameOf (effect t c .table) ≡ frameOf t
+  unfolding ticked
   frame-kept =
       each-effect t c (λ n e. frameOf (e .table) ≡ frameOf t)
-      (refl, (refl, (refl, (refl, (refl, (refl, (refl, (refl, (refl, (refl, tt))))))))))
+      (refl, (refl, (refl, (refl, (refl, (refl, (refl, (refl, (refl, (refl, (refl, (refl, (ringing-same frameOf (λ i g u. refl) (later (t .ticks) 1) (t .timers) t, tt)))))))))))))
       (λ n. refl)
 
-  -- only the first six change a task
-  pub columns-kept : ltb CLEAR (c .operation) ≡ true → columnsOf (effect t c .table) ≡ columnsOf t
+  -- only the first six and TICK change a task
+  pub columns-kept : (ltb CLEAR (c .operation) && ltb (c .operation) TICK) ≡ true → columnsOf (effect t c .table) ≡ columnsOf t
   columns-kept =
-      each-effect t c (λ n e. ltb CLEAR n ≡ true → columnsOf (e .table) ≡ columnsOf t)
-      (never, (never, (never, (never, (never, (never, (λ h. refl, (λ h. refl, (λ h. refl, (λ h. refl, tt))))))))))
+      each-effect t c (λ n e. (ltb CLEAR n && ltb n TICK) ≡ true → columnsOf (e .table) ≡ columnsOf t)
+      (never, (never, (never, (never, (never, (never, (λ h. refl, (λ h. refl, (λ h. refl, (λ h. refl, (λ h. refl, (λ h. refl, (never, tt)))))))))))))
       (λ n h. refl)
 
   -- only ENTER and EXIT change a holder
   pub holders-kept : (eqb (c .operation) ENTER || eqb (c .operation) EXIT) ≡ false → effect t c .table .holder ≡ t .holder
+  unfolding ticked
   holders-kept =
       each-effect t c (λ n e. (eqb n ENTER || eqb n EXIT) ≡ false → e .table .holder ≡ t .holder)
-      (λ h. refl, (λ h. refl, (λ h. refl, (λ h. refl, (λ h. refl, (λ h. refl, (λ h. never (sym h), (λ h. never (sym h), (λ h. refl, (λ h. refl, tt))))))))))
+      (λ h. refl, (λ h. refl, (λ h. refl, (λ h. refl, (λ h. refl, (λ h. refl, (λ h. never (sym h), (λ h. never (sym h), (λ h. refl, (λ h. refl, (λ h. refl, (λ h. refl, (λ h. ringing-same (λ u. u .holder) (λ i g u. refl) (later (t .ticks) 1) (t .timers) t, tt)))))))))))))
       (λ n h. refl)
 
   -- only SEND and RETRIEVE change what the queues hold
-  pub contents-kept : ltb (c .operation) SEND ≡ true → contentsOf (effect t c .table) ≡ contentsOf t
+  pub contents-kept : (eqb (c .operation) SEND || eqb (c .operation) RETRIEVE) ≡ false → contentsOf (effect t c .table) ≡ contentsOf t
+  unfolding ticked
   contents-kept =
-      each-effect t c (λ n e. ltb n SEND ≡ true → contentsOf (e .table) ≡ contentsOf t)
-      (λ h. refl, (λ h. refl, (λ h. refl, (λ h. refl, (λ h. refl, (λ h. refl, (λ h. refl, (λ h. refl, (never, (never, tt))))))))))
+      each-effect t c (λ n e. (eqb n SEND || eqb n RETRIEVE) ≡ false → contentsOf (e .table) ≡ contentsOf t)
+      (λ h. refl, (λ h. refl, (λ h. refl, (λ h. refl, (λ h. refl, (λ h. refl, (λ h. refl, (λ h. refl, (λ h. never (sym h), (λ h. never (sym h), (λ h. refl, (λ h. refl, (λ h. ringing-same contentsOf (λ i g u. refl) (later (t .ticks) 1) (t .timers) t, tt)))))))))))))
       (λ n h. refl)
 
   -- an operation that changes neither a task nor a holder changes nothing that the election reads
-  pub election-kept : ltb EXIT (c .operation) ≡ true → electionOf (effect t c .table) ≡ electionOf t
+  pub election-kept : (ltb EXIT (c .operation) && ltb (c .operation) TICK) ≡ true → electionOf (effect t c .table) ≡ electionOf t
   election-kept =
-      each-effect t c (λ n e. ltb EXIT n ≡ true → electionOf (e .table) ≡ electionOf t)
-      (never, (never, (never, (never, (never, (never, (never, (never, (λ h. refl, (λ h. refl, tt))))))))))
+      each-effect t c (λ n e. (ltb EXIT n && ltb n TICK) ≡ true → electionOf (e .table) ≡ electionOf t)
+      (never, (never, (never, (never, (never, (never, (never, (never, (λ h. refl, (λ h. refl, (λ h. refl, (λ h. refl, (never, tt)))))))))))))
+      (λ n h. refl)
+
+  -- only STOP, END, ARM, DISARM and TICK change a timer, and only TICK the counter
+  pub timers-kept : (ltb (c .operation) ARM && not (eqb (c .operation) STOP || eqb (c .operation) END)) ≡ true → effect t c .table .timers ≡ t .timers
+  timers-kept =
+      each-effect t c (λ n e. (ltb n ARM && not (eqb n STOP || eqb n END)) ≡ true → e .table .timers ≡ t .timers)
+      (λ h. refl, (never, (never, (λ h. refl, (λ h. refl, (λ h. refl, (λ h. refl, (λ h. refl, (λ h. refl, (λ h. refl, (never, (never, (never, tt)))))))))))))
+      (λ n h. refl)
+
+  pub ticks-kept : ltb (c .operation) TICK ≡ true → effect t c .table .ticks ≡ t .ticks
+  ticks-kept =
+      each-effect t c (λ n e. ltb n TICK ≡ true → e .table .ticks ≡ t .ticks)
+      (λ h. refl, (λ h. refl, (λ h. refl, (λ h. refl, (λ h. refl, (λ h. refl, (λ h. refl, (λ h. refl, (λ h. refl, (λ h. refl, (λ h. refl, (λ h. refl, (never, tt)))))))))))))
       (λ n h. refl)
 
 -- ---- ENTER and EXIT, entry by entry

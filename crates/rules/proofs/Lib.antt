@@ -14,4 +14,5 @@ pub mod Validity
 pub mod Refusals
 pub mod Effects
 pub mod Columns
+pub mod Clock
 pub mod Rows

@@ -75,6 +75,8 @@ withStores lengths es cs t =
       length = lengths;
       element = es;
       criterion = cs;
+      ticks = t .ticks;
+      timers = t .timers;
     }
 
 -- one side of a list laid down

@@ -1,4 +1,4 @@
--- The ten P rows of document 01's bench examples, as one list, shown right by one claim that antt computes.
+-- The ten P rows of document 01's bench examples, as one list, shown right by one claim that antt computes; and T-01's timers likewise.
 use Prim.Native.Nat.{ℕ}
 use mathlib.Core.Path.{_≡_, refl}
 use mathlib.Core.Bool.{Bool, true, _&&_}
@@ -8,7 +8,7 @@ use Rattle.rules.specs.declared.Table.{Table}
 use Rattle.rules.specs.declared.Call.{Call}
 use Rattle.rules.specs.declared.Answer.{Answer}
 use Rattle.rules.specs.declared.Done.{Done}
-use Rattle.rules.specs.Numbers.{outside, nobody, START, STOP, END, SIGNAL, WAIT, CLEAR, ENTER, EXIT, SEND, RETRIEVE}
+use Rattle.rules.specs.Numbers.{outside, nobody, START, STOP, END, SIGNAL, WAIT, CLEAR, ENTER, EXIT, SEND, RETRIEVE, ARM, DISARM, TICK}
 use Rattle.rules.specs.Words.{all, every, below, padded}
 use Rattle.rules.specs.Events.{met, arrive, cleared}
 use Rattle.rules.specs.Tasks.{woken, signalled, waited}
@@ -16,10 +16,11 @@ use Rattle.rules.specs.Regions.{held}
 use Rattle.rules.specs.Queues.{pairs, front, behind, laid, largest, before, place, without}
 use Rattle.rules.specs.Election.{smallest, lowest, isBest, bestReady, election}
 use Rattle.rules.specs.Tables.{taskOf, queueOf}
-use Rattle.rules.specs.Validity.{shaped, countsInRange, prioritiesInRange, boundsInRange, listsInRange, operatorsInRange, holdersInRange, criteriaInRange, zeroPast, zeroPastCounts, zeroPastLengths, restRight, statesRight, oneHolder, holderReady, holderElected, lengthsRight, electedRight, valid}
+use Rattle.rules.specs.Validity.{shaped, countsInRange, prioritiesInRange, boundsInRange, listsInRange, operatorsInRange, holdersInRange, criteriaInRange, zeroPast, zeroPastCounts, zeroPastLengths, restRight, statesRight, oneHolder, holderReady, holderElected, lengthsRight, electedRight, timerRight, timersRight, valid}
 use Rattle.rules.specs.Fresh.{configurationInRange, freshTable, fresh}
 use Rattle.rules.specs.Refusals.{missing, wrongState, leaves, reasons, refusal}
-use Rattle.rules.specs.Effects.{effect}
+use Rattle.rules.specs.Timers.{later, ahead}
+use Rattle.rules.specs.Effects.{ringing, ticked, effect}
 use Rattle.rules.specs.Step.{step}
 
 -- a call, and the answer that document 01 gives for it
@@ -109,10 +110,11 @@ P4 =
     ∷ [])
     ∷ []
 
--- "P5: caller 1 with operation 10: 11; with operation 6: 12. Outside START: 13."
+-- "P5: caller 1 with operation 10: 11; with operation 6: 12. Outside START: 13." "Status 11 now begins at operation 13, as does P5's first
+-- case".
 abbrev P5 : List Run
 P5 =
-    run (says 1 10 0 0 0 11 0 ∷ [])
+    run (says 1 13 0 0 0 11 0 ∷ [])
     ∷ run (says 1 ENTER 0 0 0 12 0 ∷ [])
     ∷ run (says outside START 1 0 0 13 0 ∷ [])
     ∷ []
@@ -157,7 +159,63 @@ PO5 =
 abbrev rows : List (List Run)
 rows = P1 ∷ P2 ∷ P3 ∷ P4 ∷ P5 ∷ PO1 ∷ PO2 ∷ PO3 ∷ PO4 ∷ PO5 ∷ []
 
+-- to unfold this is to unfold all that the rules compute with
+computing : Unit {0}
+unfolding rowsRight right begun rightFrom sameAnswer sameEvents all every below padded met arrive cleared woken signalled waited held pairs front behind laid largest before place without smallest lowest isBest bestReady election queueOf shaped countsInRange prioritiesInRange boundsInRange listsInRange operatorsInRange holdersInRange criteriaInRange zeroPast zeroPastCounts zeroPastLengths restRight statesRight oneHolder holderReady holderElected lengthsRight electedRight timerRight timersRight valid later ahead ringing ticked configurationInRange freshTable fresh missing wrongState leaves reasons refusal effect step
+computing = tt
+
 -- the one claim: antt computes every run of every row
 pub tenRows : rowsRight rows ≡ true
-unfolding rowsRight right begun rightFrom sameAnswer sameEvents all every below padded met arrive cleared woken signalled waited held pairs front behind laid largest before place without smallest lowest isBest bestReady election queueOf shaped countsInRange prioritiesInRange boundsInRange listsInRange operatorsInRange holdersInRange criteriaInRange zeroPast zeroPastCounts zeroPastLengths restRight statesRight oneHolder holderReady holderElected lengthsRight electedRight valid configurationInRange freshTable fresh missing wrongState leaves reasons refusal effect step
+unfolding computing
 tenRows = refl
+
+-- ---- T-01, sentence by sentence, from the same fresh table
+
+-- "12 TICK, from the outside only": "status 13 lets TICK pass, a TICK from a task gets 12 if that task isn't elected and 13 if it is"
+abbrev onlyOutside : List Run
+onlyOutside =
+    run (says outside TICK 0 0 0 0 0 ∷ says 1 TICK 0 0 0 12 0 ∷ says 0 TICK 0 0 0 13 0 ∷ says outside ARM 0 0 1 13 0 ∷ says outside DISARM 0 0 0 13 0 ∷ [])
+    ∷ []
+
+-- "Status 11 now begins at operation 13"; "14 covers timer and delay"; "delay 1 to 2147483647"
+abbrev inRange : List Run
+inRange =
+    run
+    (says 0 13 0 0 0 11 0
+    ∷ says 0 ARM 16 0 1 14 0
+    ∷ says 0 ARM 0 16 1 14 0
+    ∷ says 0 ARM 0 0 0 14 0
+    ∷ says 0 ARM 0 0 2147483648 14 0
+    ∷ says 0 DISARM 16 0 0 14 0
+    ∷ says 0 ARM 15 15 2147483647 0 0
+    ∷ [])
+    ∷ []
+
+-- "signal me in 300 ticks", here in two; "arming again replaces"; two timers that are due at one tick
+abbrev dueThen : List Run
+dueThen =
+    endsWith 0 0 (says 0 ARM 0 3 2 0 0 ∷ says outside TICK 0 0 0 0 0 ∷ [])
+    ∷ endsWith 0 8 (says 0 ARM 0 3 2 0 0 ∷ says outside TICK 0 0 0 0 0 ∷ says outside TICK 0 0 0 0 0 ∷ [])
+    ∷ endsWith 0 2 (says 0 ARM 0 3 2 0 0 ∷ says 0 ARM 0 1 1 0 0 ∷ says outside TICK 0 0 0 0 0 ∷ says outside TICK 0 0 0 0 0 ∷ [])
+    ∷ endsWith 0 3 (says 0 ARM 0 0 1 0 0 ∷ says 0 ARM 7 1 1 0 0 ∷ says outside TICK 0 0 0 0 0 ∷ [])
+    ∷ run (says 0 ARM 4 0 1 0 0 ∷ says 0 WAIT 1 0 0 1 nobody ∷ says outside TICK 0 0 0 0 0 ∷ [])
+    ∷ []
+
+-- "STOP and END disarm the task's timers"; "a timer that another task has armed gets 15; DISARM of an idle one changes nothing"
+abbrev disarms : List Run
+disarms =
+    run (says 0 ARM 0 0 1 0 0 ∷ says 0 START 2 0 0 0 2 ∷ says 2 ARM 0 0 1 15 2 ∷ says 2 DISARM 0 0 0 15 2 ∷ says 2 DISARM 1 0 0 0 2 ∷ [])
+    ∷ endsWith 0 0 (says 0 ARM 0 3 1 0 0 ∷ says 0 DISARM 0 0 0 0 0 ∷ says outside TICK 0 0 0 0 0 ∷ [])
+    ∷ endsWith 0 0
+    (says 0 ARM 0 3 1 0 0
+    ∷ says 0 START 2 0 0 0 2
+    ∷ says 2 STOP 0 0 0 0 2
+    ∷ says 2 START 0 0 0 0 2
+    ∷ says 2 ARM 0 5 1 0 2
+    ∷ says outside TICK 0 0 0 0 2
+    ∷ [])
+    ∷ []
+
+pub timerRows : rowsRight (onlyOutside ∷ inRange ∷ dueThen ∷ disarms ∷ []) ≡ true
+unfolding computing
+timerRows = refl

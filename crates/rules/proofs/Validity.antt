@@ -17,7 +17,7 @@ use Rattle.rules.specs.Regions.{held, occupied, holderOf}
 use Rattle.rules.specs.Queues.{behind}
 use Rattle.rules.specs.Election.{lowest, readyAt, isBest, bestReady, election}
 use Rattle.rules.specs.Tables.{taskOf, lengthOf, boundOf, electionOf}
-use Rattle.rules.specs.Validity.{shaped, countsInRange, prioritiesInRange, boundInRange, boundsInRange, listsInRange, operatorsInRange, holdersInRange, criteriaInRange, zeroPast, zeroPastCounts, zeroPastLengths, restRight, stateRight, statesRight, oneHolder, holderReady, holderElected, lengthsRight, electedRight, valid}
+use Rattle.rules.specs.Validity.{shaped, countsInRange, prioritiesInRange, boundInRange, boundsInRange, listsInRange, operatorsInRange, holdersInRange, criteriaInRange, zeroPast, zeroPastCounts, zeroPastLengths, restRight, stateRight, statesRight, oneHolder, holderReady, holderElected, lengthsRight, electedRight, timersRight, valid}
 use Rattle.rules.proofs.Bools.{given, shown, and-left, and-right, both, or-cases, or-first, or-second, same-test}
 use Rattle.rules.proofs.Election.{lowest-is}
 use Rattle.rules.proofs.Queues.{Sound}
@@ -44,11 +44,12 @@ pub record Rules (t : Table) : Type 0 where
   pub holder-elected : holderElected (t .elected) (t .holder) ≡ true
   pub lengths : lengthsRight (t .queues) (t .bound) (t .length) ≡ true
   pub elected : electedRight t ≡ true
+  pub timers : timersRight (t .tasks) (t .state) (t .ticks) (t .timers) ≡ true
 
 rules-of : (t : Table) → valid t ≡ true → Rules t
 unfolding valid
 rules-of t v =
-    let (a, (b, (c, (d, (e, (f, (g, (h, (i, (j, (k, (l, (m, (n, (o, (p, (q, (r, s)))))))))))))))))) = given _ v in
+    let (a, (b, (c, (d, (e, (f, (g, (h, (i, (j, (k, (l, (m, (n, (o, (p, (q, (r, (s, u))))))))))))))))))) = given _ v in
     record {
       shape = a;
       counts = b;
@@ -68,6 +69,7 @@ rules-of t v =
       holder-elected = p;
       lengths = q;
       elected = r;
+      timers = s;
     }
 
 valid-of : (t : Table) → Rules t → valid t ≡ true
@@ -105,7 +107,7 @@ valid-of t r =
                                   r .holder-ready,
                                   (
                                     r .holder-elected,
-                                    (r .lengths, (r .elected, tt)),
+                                    (r .lengths, (r .elected, (r .timers, tt))),
                                   ),
                                 ),
                               ),
@@ -204,6 +206,7 @@ pub record Parts (t : Table) : Type 0 where
   pub queues : queuesRight (t .queues) (t .bound) (t .length) (t .element) (t .criterion) ≡ true
   pub criteria : criteriaInRange (t .criterion) ≡ true
   pub elected : t .elected ≡ electionOf t
+  pub timers : timersRight (t .tasks) (t .state) (t .ticks) (t .timers) ≡ true
 
 -- ---- the same as the list says
 
@@ -321,6 +324,7 @@ parts-of t v =
       queues = queues-gathered t r;
       criteria = r .criteria;
       elected = eqb-true _ _ (r .elected);
+      timers = r .timers;
     }
   where
     go : (b : Bool) → isZero (held (t .holder)) ≡ b
@@ -445,6 +449,7 @@ module _ (t : Table) (p : Parts t) where
         holder-elected = holder-is-elected;
         lengths = within-all _ _ _ (λ q l k. and-right (boundInRange (boundOf t q)) _ (used q l k));
         elected = eq-eqb _ _ (p .elected);
+        timers = p .timers;
       }
 
 pub valid-parts : (t : Table) → Parts t → valid t ≡ true
@@ -460,6 +465,7 @@ checks t =
     ∷ queuesRight (t .queues) (t .bound) (t .length) (t .element) (t .criterion)
     ∷ criteriaInRange (t .criterion)
     ∷ eqb (t .elected) (electionOf t)
+    ∷ timersRight (t .tasks) (t .state) (t .ticks) (t .timers)
     ∷ []
 
 pub valid-is : (t : Table) → shaped t ≡ true → valid t ≡ all (checks t)
@@ -467,11 +473,11 @@ valid-is t s =
     same-test (valid t) (all (checks t))
     (λ v.
     let p = parts-of t v in
-    shown (checks t) (p .counts, (p .tasks, (p .regions, (p .holder, (p .queues, (p .criteria, (eq-eqb _ _ (p .elected), tt))))))))
+    shown (checks t) (p .counts, (p .tasks, (p .regions, (p .holder, (p .queues, (p .criteria, (eq-eqb _ _ (p .elected), (p .timers, tt)))))))))
     (λ h.
-    let (a, (b, (c, (d, (e, (f, (g, i))))))) = given (checks t) h in
+    let (a, (b, (c, (d, (e, (f, (g, (i, j)))))))) = given (checks t) h in
     valid-parts t
-    (record { shape = s; counts = a; tasks = b; regions = c; holder = d; queues = e; criteria = f; elected = eqb-true _ _ g }))
+    (record { shape = s; counts = a; tasks = b; regions = c; holder = d; queues = e; criteria = f; elected = eqb-true _ _ g; timers = i }))
 
 -- ---- a law for the class: in a valid table no task waits with its condition met
 

@@ -1,8 +1,9 @@
--- The ten operations: what an accepted call does to the table, before the election, and what it answers.
+-- The thirteen operations: what an accepted call does to the table, before the election, and what it answers.
 use Prim.Native.Nat.{ℕ}
 use mathlib.Core.Bool.{cond}
-use mathlib.Core.List.{List, [], _∷_, _++_}
+use mathlib.Core.List.{List, [], _∷_, _++_, map}
 use lib.ListN.{getD}
+use Rattle.rules.specs.declared.Timer.{Timer}
 use Rattle.rules.specs.declared.Table.{Table}
 use Rattle.rules.specs.declared.Call.{Call}
 use Rattle.rules.specs.Words.{altered, byOperation}
@@ -10,7 +11,8 @@ use Rattle.rules.specs.Events.{met}
 use Rattle.rules.specs.Tasks.{asStarted, asStopped, signalled, waited, asCleared}
 use Rattle.rules.specs.Regions.{entered, exited}
 use Rattle.rules.specs.Queues.{Pair, pair, noPair, place, without}
-use Rattle.rules.specs.Tables.{taskOf, changed, withHolders, queueOf, withQueue}
+use Rattle.rules.specs.Timers.{later, asArmed, disarmed, isDue, rung}
+use Rattle.rules.specs.Tables.{taskOf, changed, withTimers, withHolders, queueOf, withQueue}
 
 -- the table, the status (0, or 1 for a WAIT that waits) and the pair that RETRIEVE gives
 pub record Effect : Type 0 where
@@ -26,13 +28,17 @@ plain t = record { table = t; status = 0; given = noPair }
 abbrev pub start : Table → Call → Effect
 start t c = plain (changed (c .a) asStarted t)
 
+-- a task stopped: "STOP and END disarm the task's timers"
+abbrev pub stoppedTable : ℕ → Table → Table
+stoppedTable i t = withTimers (t .ticks) (map (disarmed i) (t .timers)) (changed i asStopped t)
+
 -- "becomes stopped, events and waited list cleared; may be the caller"
 abbrev pub stop : Table → Call → Effect
-stop t c = plain (changed (c .a) asStopped t)
+stop t c = plain (stoppedTable (c .a) t)
 
 -- "as STOP of the caller"
 abbrev pub end : Table → Call → Effect
-end t c = plain (changed (c .caller) asStopped t)
+end t c = plain (stoppedTable (c .caller) t)
 
 -- "event arrived, whatever it was; a waiting task whose condition is now met becomes ready"
 abbrev pub signal : Table → Call → Effect
@@ -72,13 +78,35 @@ retrieve t c =
       given = getD (queueOf t (c .a)) (place (c .c) (queueOf t (c .a))) noPair;
     }
 
--- a number past the ten is never accepted
+-- "for the caller; arming again replaces"
+abbrev pub arm : Table → Call → Effect
+arm t c = plain (withTimers (t .ticks) (altered (c .a) (asArmed (c .caller) (c .b) (later (t .ticks) (c .c))) (t .timers)) t)
+
+-- "DISARM of an idle one changes nothing"
+abbrev pub disarm : Table → Call → Effect
+disarm t c = plain (withTimers (t .ticks) (altered (c .a) (disarmed (c .caller)) (t .timers)) t)
+
+-- each due timer "signals its task's event"
+unfoldable pub ringing : ℕ → List Timer → Table → Table
+ringing ticks [] t = t
+ringing ticks (r ∷ rs) t = ringing ticks rs (cond (isDue ticks r) (changed (r .owner) (signalled (r .event)) t) t)
+
+-- the counter advances; "all timers due at one tick signal before one election"
+unfoldable pub ticked : Table → Table
+ticked t =
+    withTimers (later (t .ticks) 1) (map (rung (later (t .ticks) 1)) (t .timers))
+    (ringing (later (t .ticks) 1) (t .timers) t)
+
+abbrev pub tick : Table → Call → Effect
+tick t c = plain (ticked t)
+
+-- a number past the thirteen is never accepted
 abbrev pub nothing : Table → Call → Effect
 nothing t c = plain t
 
--- the operations by their numbers, 0 to 9
+-- the operations by their numbers, 0 to 12
 abbrev pub operations : List (Table → Call → Effect)
-operations = start ∷ stop ∷ end ∷ signal ∷ wait ∷ clear ∷ enter ∷ exit ∷ send ∷ retrieve ∷ []
+operations = start ∷ stop ∷ end ∷ signal ∷ wait ∷ clear ∷ enter ∷ exit ∷ send ∷ retrieve ∷ arm ∷ disarm ∷ tick ∷ []
 
 unfoldable pub effect : Table → Call → Effect
 effect t c = byOperation nothing (c .operation) operations t c

@@ -6,9 +6,10 @@ use lib.Dec.{ltb, leb}
 use lib.ListN.{length, take, replicate}
 use Rattle.rules.specs.declared.Table.{Table}
 use Rattle.rules.specs.declared.Done.{Done}
-use Rattle.rules.specs.Numbers.{taskRoom, priorityEnd, regionRoom, queueRoom, storeSize}
+use Rattle.rules.specs.Numbers.{taskRoom, priorityEnd, regionRoom, queueRoom, storeSize, timerRoom}
 use Rattle.rules.specs.Words.{all, every, padded}
 use Rattle.rules.specs.Tasks.{stopped, ready}
+use Rattle.rules.specs.Timers.{idle}
 use Rattle.rules.specs.Validity.{countsInRange, boundInRange}
 use Rattle.rules.specs.Answers.{done, refused}
 
@@ -22,7 +23,7 @@ configurationInRange tasks regions queues priorities bounds =
     ∷ every boundInRange (take queues bounds)
     ∷ [])
 
--- "Task 0 is ready and elected, the others stopped, no event arrived, regions free, queues empty."
+-- "Task 0 is ready and elected, the others stopped, no event arrived, regions free, queues empty." "Fresh: counter 0, all idle."
 unfoldable pub freshTable : ℕ → ℕ → ℕ → List ℕ → List ℕ → Table
 freshTable tasks regions queues priorities bounds =
     record {
@@ -40,6 +41,8 @@ freshTable tasks regions queues priorities bounds =
       length = replicate queueRoom 0;
       element = replicate storeSize 0;
       criterion = replicate storeSize 0;
+      ticks = 0;
+      timers = replicate timerRoom idle;
     }
 
 -- "a table of zeros, which is not valid"
@@ -60,6 +63,8 @@ zeroTable =
       length = replicate queueRoom 0;
       element = replicate storeSize 0;
       criterion = replicate storeSize 0;
+      ticks = 0;
+      timers = replicate timerRoom idle;
     }
 
 -- "A configuration out of range is refused with 20 and gives a table of zeros"

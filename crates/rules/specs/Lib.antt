@@ -5,6 +5,7 @@ pub mod Events
 pub mod Tasks
 pub mod Regions
 pub mod Queues
+pub mod Timers
 pub mod Election
 pub mod Tables
 pub mod Validity

@@ -1,4 +1,4 @@
--- The numbers of document 01's table of objects, and the numbers of the ten operations, each once by name.
+-- The numbers of document 01's table of objects, and the numbers of the thirteen operations, each once by name.
 use Prim.Native.Nat.{ℕ}
 
 -- "Tasks: 1 to 32"
@@ -38,6 +38,16 @@ criterionEnd = 16
 abbrev pub largestPresent : ℕ
 largestPresent = 16
 
+-- "16 timers"; "the tick counter has 32 bits and starts again at 0"; "delay 1 to 2147483647"
+abbrev pub timerRoom : ℕ
+timerRoom = 16
+
+abbrev pub tickEnd : ℕ
+tickEnd = 4294967296
+
+abbrev pub longestDelay : ℕ
+longestDelay = 2147483647
+
 -- "255 for the outside"; and the elected task where none is ready
 abbrev pub outside : ℕ
 outside = 255
@@ -45,7 +55,7 @@ outside = 255
 abbrev pub nobody : ℕ
 nobody = 255
 
--- the ten operations
+-- the thirteen operations
 abbrev pub START : ℕ
 START = 0
 
@@ -75,3 +85,12 @@ SEND = 8
 
 abbrev pub RETRIEVE : ℕ
 RETRIEVE = 9
+
+abbrev pub ARM : ℕ
+ARM = 10
+
+abbrev pub DISARM : ℕ
+DISARM = 11
+
+abbrev pub TICK : ℕ
+TICK = 12

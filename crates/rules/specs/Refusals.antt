@@ -4,25 +4,31 @@ use mathlib.Core.Bool.{Bool, false, true, not, _&&_, _||_}
 use mathlib.Core.List.{List, [], _∷_}
 use lib.Dec.{ltb, eqb, leb}
 use lib.ListN.{getD, length}
+use Rattle.rules.specs.declared.Timer.{Timer}
 use Rattle.rules.specs.declared.Table.{Table}
 use Rattle.rules.specs.declared.Call.{Call}
-use Rattle.rules.specs.Numbers.{eventEnd, criterionEnd, largestPresent, outside, SIGNAL, WAIT, SEND, RETRIEVE}
+use Rattle.rules.specs.Numbers.{eventEnd, criterionEnd, largestPresent, timerRoom, longestDelay, outside, SIGNAL, WAIT, SEND, RETRIEVE, TICK}
 use Rattle.rules.specs.Words.{isZero, byOperation, Reason, when, first}
 use Rattle.rules.specs.Tasks.{stopped}
 use Rattle.rules.specs.Regions.{occupied}
 use Rattle.rules.specs.Queues.{noneFits}
+use Rattle.rules.specs.Timers.{idle, armedByOther}
 use Rattle.rules.specs.Tables.{boundOf, queueOf}
 use Rattle.rules.specs.Validity.{valid}
 
 -- ---- 13 and 12
 
--- "caller 255 and the operation isn't SIGNAL"
+-- "caller 255 and the operation isn't SIGNAL"; "status 13 lets TICK pass"
 abbrev pub outsideBarred : Call → Bool
-outsideBarred c = eqb (c .caller) outside && not (eqb (c .operation) SIGNAL)
+outsideBarred c = eqb (c .caller) outside && not (eqb (c .operation) SIGNAL || eqb (c .operation) TICK)
 
 -- "caller not 255 and not the elected task"
 abbrev pub notElected : ℕ → ℕ → Bool
 notElected elected caller = not (eqb caller outside) && not (eqb caller elected)
+
+-- "a TICK from a task gets 12 if that task isn't elected and 13 if it is"
+abbrev pub tickByTask : Call → Bool
+tickByTask c = eqb (c .operation) TICK && not (eqb (c .caller) outside)
 
 -- ---- 14: "a task, event, region, queue or criterion that doesn't exist; an event list of 0 or above 65535"
 
@@ -32,6 +38,10 @@ absent count i = not (ltb i count)
 
 abbrev pub badList : ℕ → Bool
 badList list = isZero list || ltb 65535 list
+
+-- "delay 1 to 2147483647"
+abbrev pub badDelay : ℕ → Bool
+badDelay delay = isZero delay || ltb longestDelay delay
 
 -- RETRIEVE takes 16 too
 abbrev pub badKey : ℕ → Bool
@@ -54,6 +64,10 @@ missing tasks regions queues c =
     -- SEND, RETRIEVE
     ∷ (absent queues (c .a) || absent criterionEnd (c .c))
     ∷ (absent queues (c .a) || badKey (c .c))
+    -- ARM, DISARM, TICK
+    ∷ (absent timerRoom (c .a) || (absent eventEnd (c .b) || badDelay (c .c)))
+    ∷ absent timerRoom (c .a)
+    ∷ false
     ∷ [])
 
 -- ---- 19: "operator above 1"
@@ -61,19 +75,32 @@ missing tasks regions queues c =
 abbrev pub badOperator : ℕ → Bool
 badOperator operator = ltb 1 operator
 
--- ---- 15: "START of a task not stopped; STOP or SIGNAL of a stopped one"
+-- ---- 15: "START of a task not stopped; STOP or SIGNAL of a stopped one"; "ARM or DISARM of a timer that another task has armed"
 
 abbrev pub stoppedAt : List ℕ → ℕ → Bool
 stoppedAt states i = eqb (getD states i 0) stopped
 
-unfoldable pub wrongState : List ℕ → Call → Bool
-wrongState states c =
+abbrev pub othersAt : List Timer → ℕ → ℕ → Bool
+othersAt timers caller i = armedByOther caller (getD timers i idle)
+
+unfoldable pub wrongState : List ℕ → List Timer → Call → Bool
+wrongState states timers c =
     byOperation false (c .operation)
     -- START, STOP, END, SIGNAL
     (not (stoppedAt states (c .a))
     ∷ stoppedAt states (c .a)
     ∷ false
     ∷ stoppedAt states (c .b)
+    -- WAIT, CLEAR, ENTER, EXIT, SEND, RETRIEVE
+    ∷ false
+    ∷ false
+    ∷ false
+    ∷ false
+    ∷ false
+    ∷ false
+    -- ARM, DISARM
+    ∷ othersAt timers (c .caller) (c .a)
+    ∷ othersAt timers (c .caller) (c .a)
     ∷ [])
 
 -- ---- 16: "WAIT, END or STOP of oneself while any region is occupied, even if the wait would pass"
@@ -89,12 +116,13 @@ leaves c =
 unfoldable pub reasons : Table → Call → List Reason
 reasons t c =
     when 10 (not (valid t))
-    ∷ when 11 (ltb 9 (c .operation))
+    ∷ when 11 (ltb TICK (c .operation))
     ∷ when 13 (outsideBarred c)
     ∷ when 12 (notElected (t .elected) (c .caller))
+    ∷ when 13 (tickByTask c)
     ∷ when 14 (missing (t .tasks) (t .regions) (t .queues) c)
     ∷ when 19 (eqb (c .operation) WAIT && badOperator (c .b))
-    ∷ when 15 (wrongState (t .state) c)
+    ∷ when 15 (wrongState (t .state) (t .timers) c)
     ∷ when 16 (leaves c && occupied (t .holder))
     ∷ when 17 (eqb (c .operation) SEND && leb (boundOf t (c .a)) (length (queueOf t (c .a))))
     ∷ when 18 (eqb (c .operation) RETRIEVE && noneFits (c .c) (queueOf t (c .a)))

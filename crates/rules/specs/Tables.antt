@@ -3,8 +3,10 @@ use Prim.Native.Nat.{ℕ}
 use mathlib.Core.List.{List}
 use lib.ListN.{getD, set, length}
 use Rattle.rules.specs.declared.Task.{Task}
+use Rattle.rules.specs.declared.Timer.{Timer}
 use Rattle.rules.specs.declared.Table.{Table}
 use Rattle.rules.specs.Queues.{Pair, pairs, elements, criteria, front, laid}
+use Rattle.rules.specs.Timers.{idle}
 use Rattle.rules.specs.Election.{election}
 
 -- what the columns say of task i
@@ -16,6 +18,9 @@ taskOf t i =
       list = getD (t .list) i 0;
       operator = getD (t .operator) i 0;
     }
+
+abbrev pub timerOf : Table → ℕ → Timer
+timerOf t i = getD (t .timers) i idle
 
 abbrev pub lengthOf : Table → ℕ → ℕ
 lengthOf t q = getD (t .length) q 0
@@ -45,6 +50,8 @@ withTask i r t =
       length = t .length;
       element = t .element;
       criterion = t .criterion;
+      ticks = t .ticks;
+      timers = t .timers;
     }
 
 abbrev pub withHolders : List ℕ → Table → Table
@@ -64,6 +71,8 @@ withHolders holders t =
       length = t .length;
       element = t .element;
       criterion = t .criterion;
+      ticks = t .ticks;
+      timers = t .timers;
     }
 
 abbrev pub withElected : ℕ → Table → Table
@@ -83,6 +92,8 @@ withElected who t =
       length = t .length;
       element = t .element;
       criterion = t .criterion;
+      ticks = t .ticks;
+      timers = t .timers;
     }
 
 -- the table where queue q means this list
@@ -103,6 +114,30 @@ withQueue q queue t =
       length = set (t .length) q (length queue);
       element = laid q (elements queue) (t .element);
       criterion = laid q (criteria queue) (t .criterion);
+      ticks = t .ticks;
+      timers = t .timers;
+    }
+
+-- the table with this counter and these timers
+abbrev pub withTimers : ℕ → List Timer → Table → Table
+withTimers ticks timers t =
+    record {
+      tasks = t .tasks;
+      regions = t .regions;
+      queues = t .queues;
+      elected = t .elected;
+      priority = t .priority;
+      state = t .state;
+      arrived = t .arrived;
+      list = t .list;
+      operator = t .operator;
+      holder = t .holder;
+      bound = t .bound;
+      length = t .length;
+      element = t .element;
+      criterion = t .criterion;
+      ticks = ticks;
+      timers = timers;
     }
 
 -- task i changed by f

@@ -1,16 +1,18 @@
 -- "A table is valid when all of these hold": one definition for each rule of document 01's list, joined in its order.
 use Prim.Native.Nat.{ℕ, zero, suc}
-use mathlib.Core.Bool.{Bool, true, false, not, _&&_, _||_}
+use mathlib.Core.Bool.{Bool, true, false, cond, not, _&&_, _||_}
 use mathlib.Core.List.{List, [], _∷_}
 use lib.Dec.{ltb, eqb, leb}
 use lib.ListN.{getD, length}
+use Rattle.rules.specs.declared.Timer.{Timer}
 use Rattle.rules.specs.declared.Table.{Table}
-use Rattle.rules.specs.Numbers.{taskRoom, priorityEnd, listEnd, regionRoom, queueRoom, places, storeSize, criterionEnd}
+use Rattle.rules.specs.Numbers.{taskRoom, priorityEnd, listEnd, regionRoom, queueRoom, places, storeSize, criterionEnd, eventEnd, timerRoom, tickEnd, longestDelay}
 use Rattle.rules.specs.Words.{isZero, all, every, below, within, past}
 use Rattle.rules.specs.Events.{met}
-use Rattle.rules.specs.Tasks.{isWaiting}
+use Rattle.rules.specs.Tasks.{stopped, isWaiting}
 use Rattle.rules.specs.Regions.{held, occupied, holderOf}
 use Rattle.rules.specs.Queues.{behind}
+use Rattle.rules.specs.Timers.{ahead, isArmed}
 use Rattle.rules.specs.Election.{readyAt}
 use Rattle.rules.specs.Tables.{taskOf, electionOf}
 
@@ -27,6 +29,7 @@ shaped t =
     ∷ eqb (length (t .length)) queueRoom
     ∷ eqb (length (t .element)) storeSize
     ∷ eqb (length (t .criterion)) storeSize
+    ∷ eqb (length (t .timers)) timerRoom
     ∷ [])
 
 -- ---- "Counts, priorities, bounds, event lists, operators, holders and stored criteria are in range."
@@ -132,6 +135,23 @@ lengthsRight queues bounds lengths = within queues queueRoom (λ q. leb (getD le
 unfoldable pub electedRight : Table → Bool
 electedRight t = eqb (t .elected) (electionOf t)
 
+-- ---- "an armed timer's task isn't stopped and its date lies 1 to 2147483647 ticks ahead; an idle timer is all 0"
+
+unfoldable pub timerRight : ℕ → List ℕ → ℕ → Timer → Bool
+timerRight tasks states ticks r =
+    cond (isArmed r)
+    (all (ltb (r .owner) tasks
+    ∷ not (eqb (getD states (r .owner) 0) stopped)
+    ∷ ltb (r .event) eventEnd
+    ∷ ltb (r .date) tickEnd
+    ∷ ltb 0 (ahead (r .date) ticks)
+    ∷ leb (ahead (r .date) ticks) longestDelay
+    ∷ []))
+    (all (isZero (r .armed) ∷ isZero (r .owner) ∷ isZero (r .event) ∷ isZero (r .date) ∷ []))
+
+unfoldable pub timersRight : ℕ → List ℕ → ℕ → List Timer → Bool
+timersRight tasks states ticks timers = ltb ticks tickEnd && every (timerRight tasks states ticks) timers
+
 unfoldable pub valid : Table → Bool
 valid t =
     all (shaped t
@@ -152,4 +172,5 @@ valid t =
     ∷ holderElected (t .elected) (t .holder)
     ∷ lengthsRight (t .queues) (t .bound) (t .length)
     ∷ electedRight t
+    ∷ timersRight (t .tasks) (t .state) (t .ticks) (t .timers)
     ∷ [])

@@ -7,6 +7,8 @@ pub const REGIONS: usize = 16;
 
 pub const QUEUES: usize = 8;
 
+pub const TIMERS: usize = 16;
+
 // Places of the store for each queue, and for all queues.
 pub const PLACES: usize = 64;
 
@@ -19,6 +21,15 @@ pub struct Task {
     pub arrived: u16,
     pub list: u16,
     pub operator: u8,
+}
+
+// A timer that is armed is 1 in `armed`, and signals the event to the task that owns it when the tick counter reaches the date; an
+// idle one is all 0.
+pub struct Timer {
+    pub armed: u8,
+    pub owner: u8,
+    pub event: u8,
+    pub date: u32,
 }
 
 // The executive's whole state. Tasks stand in columns, an array for each thing said of a task, so that a check goes through one at a
@@ -39,6 +50,8 @@ pub struct Table {
     pub length: [u8; QUEUES],
     pub element: [u32; STORE],
     pub criterion: [u8; STORE],
+    pub ticks: u32,
+    pub timers: [Timer; TIMERS],
 }
 
 // Who calls, what for, and three numbers.

@@ -1,8 +1,9 @@
-// What the executive asks of tasks and regions: the condition, the check of the columns, the holder and the election.
+// What the executive asks of tasks and regions: the condition, a signal, the check of the columns, the holder and the election.
 mod check;
 mod condition;
 mod elect;
 mod regions;
+mod signal;
 
 pub use check::tasks_right;
 pub use condition::met_by;
@@ -11,3 +12,4 @@ pub use elect::elected_by;
 pub use regions::held_by;
 pub use regions::holder_right;
 pub use regions::regions_right;
+pub use signal::signalled_by;

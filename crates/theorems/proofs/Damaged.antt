@@ -8,7 +8,7 @@ use Rattle.rules.specs.Answers.{refused}
 use Rattle.rules.specs.Validity.{valid}
 use Rattle.rules.specs.Refusals.{reasons, refusal}
 use Rattle.rules.specs.Step.{step}
-use Rattle.theorems.specs.Happenings.{Happening, outside, own, signalCall, callOf, run, calls, signals, Reply, reply, callReplies, statusFirst, signalStatuses, Demand3Damaged}
+use Rattle.theorems.specs.Happenings.{Happening, outside, own, outerCall, callOf, run, calls, outers, Reply, reply, callReplies, statusFirst, outerStatuses, Demand3Damaged}
 
 module _ (t : Table) (d : valid t ≡ false) where
   refused-ten : (c : Call) → step t c ≡ refused t 10
@@ -25,15 +25,15 @@ module _ (t : Table) (d : valid t ≡ false) where
   replies-ten : (xs : List Happening) → callReplies t xs ≡ map ten (calls xs)
   unfolding ten
   replies-ten [] = refl
-  replies-ten (outside s ∷ xs) = ap (λ r. callReplies (r .table) xs) (refused-ten (signalCall s)) ∙ replies-ten xs
+  replies-ten (outside o ∷ xs) = ap (λ r. callReplies (r .table) xs) (refused-ten (outerCall o)) ∙ replies-ten xs
   replies-ten (own c ∷ xs) =
       ap (λ r. reply (r .answer) ∷ callReplies (r .table) xs) (refused-ten c) ∙ ap (λ l. ten c ∷ l) (replies-ten xs)
 
-  statuses-first : (xs : List Happening) → signalStatuses t xs ≡ map (statusFirst t) (signals xs)
+  statuses-first : (xs : List Happening) → outerStatuses t xs ≡ map (statusFirst t) (outers xs)
   statuses-first [] = refl
-  statuses-first (outside s ∷ xs) =
-      ap (λ r. statusFirst t s ∷ signalStatuses (r .table) xs) (refused-ten (signalCall s)) ∙ ap (λ l. statusFirst t s ∷ l) (statuses-first xs)
-  statuses-first (own c ∷ xs) = ap (λ r. signalStatuses (r .table) xs) (refused-ten c) ∙ statuses-first xs
+  statuses-first (outside o ∷ xs) =
+      ap (λ r. statusFirst t o ∷ outerStatuses (r .table) xs) (refused-ten (outerCall o)) ∙ ap (λ l. statusFirst t o ∷ l) (statuses-first xs)
+  statuses-first (own c ∷ xs) = ap (λ r. outerStatuses (r .table) xs) (refused-ten c) ∙ statuses-first xs
 
 pub demand3-damaged : Demand3Damaged
 demand3-damaged t xs ys d same = (

@@ -1,7 +1,8 @@
 -- The examples, computed.
 use Prim.Native.Nat.{ℕ}
 use mathlib.Core.Path.{_≡_, refl, sym, ap, _∙_}
-use mathlib.Core.List.{List, [], _∷_, List·Permᴰ·swap}
+use mathlib.Core.Bool.{true}
+use mathlib.Core.List.{List, [], _∷_, List·Permᴰ·cons, List·Permᴰ·swap, List·Permᴰ·trans}
 use native.Mathlib.Omega.{arith}
 use lib.ListN.{getD}
 use Rattle.rules.specs.declared.Call.{Call}
@@ -13,18 +14,20 @@ use Rattle.rules.specs.Regions.{held}
 use Rattle.rules.specs.Queues.{pairs, front, behind as behindFront, laid, largest, before as beforeFirst, place, without}
 use Rattle.rules.specs.Election.{smallest, lowest, isBest, bestReady, election}
 use Rattle.rules.specs.Tables.{queueOf}
-use Rattle.rules.specs.Validity.{shaped, countsInRange, prioritiesInRange, boundsInRange, listsInRange, operatorsInRange, holdersInRange, criteriaInRange, zeroPast, zeroPastCounts, zeroPastLengths, restRight, statesRight, oneHolder, holderReady, holderElected, lengthsRight, electedRight, valid}
+use Rattle.rules.specs.Validity.{shaped, countsInRange, prioritiesInRange, boundsInRange, listsInRange, operatorsInRange, holdersInRange, criteriaInRange, zeroPast, zeroPastCounts, zeroPastLengths, restRight, statesRight, oneHolder, holderReady, holderElected, lengthsRight, electedRight, timerRight, timersRight, valid}
 use Rattle.rules.specs.Fresh.{freshTable, zeroTable}
 use Rattle.rules.specs.Refusals.{missing, wrongState, leaves, reasons, refusal}
-use Rattle.rules.specs.Effects.{effect}
+use Rattle.rules.specs.Timers.{later, ahead}
+use Rattle.rules.specs.Effects.{ringing, ticked, effect}
 use Rattle.rules.specs.Step.{step}
 use Rattle.exclusion.specs.Marks.{marks, mark, passesSignal}
 use Rattle.theorems.specs.Happenings.{Reply}
-use Rattle.theorems.specs.Examples.{begun, by, SameEnd, NotInTurn, NotFree, NotOnlyRefusing, NotFixed, NotUntouched}
+use Rattle.theorems.proofs.Order.{demand3}
+use Rattle.theorems.specs.Examples.{begun, by, Premise, SameEnd, counting, ticksFirst, ticksLater, SameEndTicking, NotInTurn, NotFree, NotPastArm, NotPastDisarm, NotOnlyRefusing, NotFixed, NotUntouched}
 
 -- to unfold this is to unfold all that the rules compute with
 rules : Unit {0}
-unfolding all every below padded met arrive woken signalled waited held pairs front behindFront laid largest beforeFirst place without smallest lowest isBest bestReady election queueOf shaped countsInRange prioritiesInRange boundsInRange listsInRange operatorsInRange holdersInRange criteriaInRange zeroPast zeroPastCounts zeroPastLengths restRight statesRight oneHolder holderReady holderElected lengthsRight electedRight valid freshTable missing wrongState leaves reasons refusal effect step zeroTable
+unfolding all every below padded met arrive woken signalled waited held pairs front behindFront laid largest beforeFirst place without smallest lowest isBest bestReady election queueOf shaped countsInRange prioritiesInRange boundsInRange listsInRange operatorsInRange holdersInRange criteriaInRange zeroPast zeroPastCounts zeroPastLengths restRight statesRight oneHolder holderReady holderElected lengthsRight electedRight timerRight timersRight valid later ahead ringing ticked freshTable missing wrongState leaves reasons refusal effect step zeroTable
 rules = tt
 
 firstStatus : List Reply → ℕ
@@ -41,10 +44,36 @@ same-end = (
   record {
     free = (refl, (refl, tt));
     same-calls = refl;
-    same-signals = List·Permᴰ·swap refl refl;
+    same-outers = List·Permᴰ·swap refl refl;
     first-in-turn = (refl, (refl, tt));
     then-in-turn = (refl, (refl, tt));
   },
+  refl,
+)
+
+ticking : Premise counting ticksFirst ticksLater
+unfolding rules passesSignal mark marks
+ticking =
+    record {
+      free = (refl, (refl, tt));
+      same-calls = refl;
+      same-outers = List·Permᴰ·trans (List·Permᴰ·cons refl (List·Permᴰ·swap refl refl)) (List·Permᴰ·swap refl refl);
+      first-in-turn = (refl, (refl, tt));
+      then-in-turn = (refl, (refl, tt));
+    }
+
+counting-valid : valid counting ≡ true
+unfolding rules
+counting-valid = refl
+
+pub same-end-ticking : SameEndTicking
+unfolding rules
+same-end-ticking = (
+  ticking,
+  demand3 counting ticksFirst ticksLater counting-valid (ticking .free) (ticking .same-calls) (ticking .same-outers) (ticking .first-in-turn) (ticking .then-in-turn) .0,
+  refl,
+  refl,
+  refl,
   refl,
 )
 
@@ -59,6 +88,14 @@ not-in-turn = (
 pub not-free : NotFree
 unfolding rules firstOf
 not-free same = let no : _≡_ {A = ℕ} 0 15 = ap firstOf same in absurd (omega arith)
+
+pub not-past-arm : NotPastArm
+unfolding rules
+not-past-arm same = let no : _≡_ {A = ℕ} 1 0 = same in absurd (omega arith)
+
+pub not-past-disarm : NotPastDisarm
+unfolding rules
+not-past-disarm same = let no : _≡_ {A = ℕ} 0 1 = same in absurd (omega arith)
 
 -- ---- the programs: a task that is stopped is started, and the same call of the table of zeros is refused
 

@@ -8,19 +8,21 @@ use native.Mathlib.Omega.{arith}
 use lib.Dec.{eqb, ltb}
 use lib.ListN.{getD, length, take, replicate, length-take, getD-replicate}
 use borrow.Author.Tests.{eq-eqb, ltb-true, ltb-false, leb-true, le-leb}
-use Rattle.rules.specs.Numbers.{taskRoom, priorityEnd, regionRoom, queueRoom, places, storeSize}
+use Rattle.rules.specs.Numbers.{taskRoom, priorityEnd, regionRoom, queueRoom, places, storeSize, timerRoom}
 use Rattle.rules.specs.Words.{isZero, all, every, padded}
 use Rattle.rules.specs.Tasks.{stopped, ready}
 use Rattle.rules.specs.Regions.{held}
 use Rattle.rules.specs.Queues.{firstPlace, behind}
+use Rattle.rules.specs.Timers.{idle}
 use Rattle.rules.specs.Election.{bestReady, readyAt, priorityAt}
-use Rattle.rules.specs.Validity.{shaped, countsInRange, boundInRange, criterionInRange, criteriaInRange, stateRight, valid}
+use Rattle.rules.specs.Validity.{shaped, countsInRange, boundInRange, criterionInRange, criteriaInRange, stateRight, timerRight, valid}
 use Rattle.rules.specs.Fresh.{configurationInRange, freshTable, zeroTable}
 use Rattle.rules.proofs.Bools.{given, shown, both, or-second}
 use Rattle.rules.proofs.Counts.{below-all}
 use Rattle.rules.proofs.Lists.{every-in, every-take, every-drop, every-replicate, length-padded, padded-at, padded-past}
 use Rattle.rules.proofs.Election.{Wins, wins-alone, best-wins, election-free}
 use Rattle.rules.proofs.Validity.{rowFits, rowZero, row-shown, tasksRight, holderRight, boundFits, queueRight, queuesRight, Parts, valid-parts, counts-fit}
+use Rattle.rules.proofs.Clock.{idle-right, timers-shown}
 use Rattle.theorems.specs.Kept.{FreshValid, ZerosInvalid}
 use Rattle.theorems.proofs.Regions.{free-fits}
 
@@ -186,7 +188,7 @@ module _ (tasks regions queues : ℕ) (priorities bounds : List ℕ) (r : Range 
         shape =
             shown _ (
               eq-eqb _ _ (column-length taskRoom tasks priorities (r .tasks-room) (r .priorities-long)),
-              (refl, (refl, (refl, (refl, (refl, (eq-eqb _ _ (column-length queueRoom queues bounds (r .queues-room) (r .bounds-long)), (refl, (refl, (refl, tt))))))))),
+              (refl, (refl, (refl, (refl, (refl, (eq-eqb _ _ (column-length queueRoom queues bounds (r .queues-room) (r .bounds-long)), (refl, (refl, (refl, (refl, tt)))))))))),
             );
         counts = r .counts;
         tasks = tasks-fit;
@@ -195,6 +197,9 @@ module _ (tasks regions queues : ℕ) (priorities bounds : List ℕ) (r : Range 
         queues = queues-fit;
         criteria = every-replicate criterionInRange storeSize 0 refl;
         elected = sym (election-free states priority (replicate regionRoom 0) refl ∙ elected-first);
+        timers =
+            timers-shown tasks states 0 (replicate timerRoom idle) (omega arith)
+            (every-replicate (timerRight tasks states 0) timerRoom idle (idle-right tasks states 0));
       }
 
 pub fresh-valid : FreshValid

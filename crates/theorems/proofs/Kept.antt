@@ -1,36 +1,38 @@
--- A valid table stays valid whatever the call: the ten operations one by one, then the step.
+-- A valid table stays valid whatever the call: the thirteen operations one by one, then the step.
 use Prim.Native.Nat.{ℕ, _-_, _<_}
 use mathlib.Core.Path.{_≡_, refl, sym, ap, _∙_, subst}
 use mathlib.Core.Logic.{_≢_}
 use mathlib.Core.Bool.{Bool, true, false, _&&_, true≢false}
-use mathlib.Core.List.{[], _∷_}
+use mathlib.Core.List.{[], _∷_, map}
 use native.Mathlib.Omega.{arith}
 use lib.Dec.{eqb, ltb}
-use lib.ListN.{length}
+use lib.ListN.{getD, length, length-map}
 use borrow.Author.Tests.{eqb-true, eqb-false, eq-eqb, ne-eqb, ltb-true, ltb-false, leb-false, lt-ltb, le-leb, not-false}
 use Rattle.rules.specs.declared.Task.{Task}
 use Rattle.rules.specs.declared.Table.{Table}
 use Rattle.rules.specs.declared.Call.{Call}
-use Rattle.rules.specs.Numbers.{listEnd, eventEnd, criterionEnd, nobody, outside}
+use Rattle.rules.specs.Numbers.{listEnd, eventEnd, criterionEnd, timerRoom, longestDelay, nobody, outside}
 use Rattle.rules.specs.Words.{isZero, byOperation}
-use Rattle.rules.specs.Tasks.{isReady, asStarted, asStopped, signalled, waited, asCleared}
+use Rattle.rules.specs.Tasks.{isStopped, isReady, asStarted, asStopped, signalled, waited, asCleared}
 use Rattle.rules.specs.Regions.{held, entered, exited}
 use Rattle.rules.specs.Queues.{place}
+use Rattle.rules.specs.Timers.{disarmed}
 use Rattle.rules.specs.Election.{readyAt, priorityAt}
 use Rattle.rules.specs.Tables.{taskOf, boundOf, queueOf, changed, withElected, settled}
 use Rattle.rules.specs.Validity.{valid}
-use Rattle.rules.specs.Refusals.{notElected, absent, badKey, missing, wrongState, leaves, refusal}
-use Rattle.rules.specs.Effects.{nothing, operations, effect}
+use Rattle.rules.specs.Refusals.{notElected, absent, badKey, badDelay, stoppedAt, missing, wrongState, leaves, refusal}
+use Rattle.rules.specs.Effects.{stoppedTable, nothing, operations, effect}
 use Rattle.rules.specs.Step.{step}
 use Rattle.rules.proofs.Bools.{or-left, or-right, not-intro}
-use Rattle.rules.proofs.Tasks.{signalled-ready}
+use Rattle.rules.proofs.Tasks.{signalled-stopped, signalled-ready}
 use Rattle.rules.proofs.Validity.{Parts, parts-of, valid-parts, row-right, elected-ready, elected-below}
 use Rattle.rules.proofs.Refusals.{Accepted, accepted-facts}
 use Rattle.rules.proofs.Effects.{each-effect}
 use Rattle.theorems.specs.Kept.{ValidKept, ValidAfter, RefusedSame}
-use Rattle.theorems.proofs.Rows.{Fits, started-fits, stopped-fits, waited-fits, cleared-fits, signalled-fits, below-room, keep-task}
+use Rattle.theorems.proofs.Rows.{Fits, started-fits, stopped-fits, waited-fits, cleared-fits, signalled-fits, waited-awake, below-room, timers-awake, timers-stopped, keep-task}
 use Rattle.theorems.proofs.Regions.{holder-elected, enter-fits, exit-fits, keep-holders}
 use Rattle.theorems.proofs.Queues.{keep-send, keep-retrieve, queue-short}
+use Rattle.theorems.proofs.Timers.{keep-arm, keep-disarm, keep-tick}
 
 -- ---- who calls
 
@@ -53,7 +55,7 @@ numbered n c = record { caller = c .caller; operation = n; a = c .a; b = c .b; c
 pub there : (count i : ℕ) → absent count i ≡ false → i < count
 there count i h = ltb-true i count (not-false (ltb i count) h)
 
--- ---- the ten operations
+-- ---- the thirteen operations
 
 module _ (t : Table) (p : Parts t) where
   fit : (i : ℕ) → i < t .tasks → Fits (priorityAt (t .priority) i) (taskOf t i)
@@ -65,12 +67,24 @@ module _ (t : Table) (p : Parts t) where
   pub caller-below : (who : ℕ) → Caller t who → who < t .tasks
   caller-below who w = let n : t .elected ≢ nobody = rw (w .is) at (w .one) in rw (w .is) (elected-below t p n)
 
-  -- one task changed
+  caller-awake : (who : ℕ) → Caller t who → stoppedAt (t .state) who ≡ false
+  caller-awake who w = rw (eqb-true (getD (t .state) who 0) 1 (caller-ready who w)) refl
+
+  -- one task changed, and not stopped then
   keep-changed : (i : ℕ) (f : Task → Task) (l : i < t .tasks)
       → ((r : Task) → Fits (priorityAt (t .priority) i) r → r .state ≡ taskOf t i .state → Fits (priorityAt (t .priority) i) (f r))
       → (isZero (held (t .holder)) ≡ false → held (t .holder) - 1 ≡ i → readyAt (t .state) i ≡ true → isReady (f (taskOf t i)) ≡ true)
+      → isStopped (f (taskOf t i)) ≡ false
       → valid (settled (changed i f t)) ≡ true
-  keep-changed i f l k h = valid-parts _ (keep-task t p i (f (taskOf t i)) l (k (taskOf t i) (fit i l) refl) h)
+  keep-changed i f l k h n =
+      valid-parts _
+      (keep-task t p i (f (taskOf t i)) l (k (taskOf t i) (fit i l) refl) h (t .timers) refl (timers-awake t p i (f (taskOf t i)) l n))
+
+  -- one task stopped
+  keep-stopped : (i : ℕ) (l : i < t .tasks) → (isZero (held (t .holder)) ≡ false → held (t .holder) - 1 ≡ i → ⊥) → valid (settled (stoppedTable i t)) ≡ true
+  keep-stopped i l h =
+      valid-parts _
+      (keep-task t p i (asStopped (taskOf t i)) l (stopped-fits (taskOf t i) (fit i l)) (λ e f g. absurd (h e f)) (map (disarmed i) (t .timers)) (length-map (t .timers) (disarmed i)) (timers-stopped t p i (asStopped (taskOf t i)) l))
 
   module _ (c : Call) where
     abbrev Keeps : ℕ → Type 0
@@ -80,26 +94,26 @@ module _ (t : Table) (p : Parts t) where
     unfolding missing
     start-keeps o =
         let l = there (t .tasks) (c .a) (o .nothing-missing) in
-        keep-changed (c .a) asStarted l (λ r k s. started-fits r k) (λ e f g. refl)
+        keep-changed (c .a) asStarted l (λ r k s. started-fits r k) (λ e f g. refl) refl
 
     stop-keeps : Keeps 1
     unfolding missing leaves
     stop-keeps o =
         let l = there (t .tasks) (c .a) (o .nothing-missing) in
-        keep-changed (c .a) asStopped l (λ r k s. stopped-fits r k) not-itself
+        keep-stopped (c .a) l not-itself
       where
-        not-itself : {X : Type 0} → isZero (held (t .holder)) ≡ false → held (t .holder) - 1 ≡ c .a → readyAt (t .state) (c .a) ≡ true → X
-        not-itself e f g =
+        not-itself : isZero (held (t .holder)) ≡ false → held (t .holder) - 1 ≡ c .a → ⊥
+        not-itself e f =
             let w = caller-of t (c .caller) (o .barred) (o .not-elected) in
             let same : c .a ≡ c .caller = sym f ∙ sym (holder-elected t p (not-intro _ e)) ∙ sym (w .is) in
-            absurd (true≢false (simp (eq-eqb (c .a) (c .caller) same, e) at (o .may-leave)))
+            true≢false (simp (eq-eqb (c .a) (c .caller) same, e) at (o .may-leave))
 
     -- the caller leaves, so no region is occupied
     end-keeps : Keeps 2
     unfolding leaves
     end-keeps o =
         let l = caller-below (c .caller) (caller-of t (c .caller) (o .barred) (o .not-elected)) in
-        keep-changed (c .caller) asStopped l (λ r k s. stopped-fits r k) (λ e f g. absurd (true≢false (simp e at (o .may-leave))))
+        keep-stopped (c .caller) l (λ e f. true≢false (simp e at (o .may-leave)))
 
     signal-keeps : Keeps 3
     unfolding missing wrongState
@@ -107,22 +121,25 @@ module _ (t : Table) (p : Parts t) where
         let l = there (t .tasks) (c .b) (or-right (absent eventEnd (c .a)) _ (o .nothing-missing)) in
         let e = there eventEnd (c .a) (or-left _ (absent (t .tasks) (c .b)) (o .nothing-missing)) in
         keep-changed (c .b) (signalled (c .a)) l (λ r k s. signalled-fits (c .a) e _ r (rw s (o .right-state)) k) (λ e f g. signalled-ready (c .a) (taskOf t (c .b)) g)
+        (signalled-stopped (c .a) (taskOf t (c .b)) ∙ o .right-state)
 
     wait-keeps : Keeps 4
     unfolding missing leaves
     wait-keeps o =
-        let l = caller-below (c .caller) (caller-of t (c .caller) (o .barred) (o .not-elected)) in
+        let w = caller-of t (c .caller) (o .barred) (o .not-elected) in
+        let l = caller-below (c .caller) w in
         let some = or-left _ (ltb 65535 (c .a)) (o .nothing-missing) in
         let le = ltb-false 65535 (c .a) (or-right (isZero (c .a)) _ (o .nothing-missing)) in
         let right = le-leb (c .b) 1 (ltb-false 1 (c .b) (o .operator-fits)) in
         keep-changed (c .caller) (waited (c .a) (c .b)) l (λ r k s. waited-fits r k (c .a) (c .b) some (lt-ltb (c .a) listEnd (omega arith)) right)
         (λ e f g. absurd (true≢false (simp e at (o .may-leave))))
+        (waited-awake (c .a) (c .b) (taskOf t (c .caller)) (caller-awake (c .caller) w))
 
     clear-keeps : Keeps 5
     clear-keeps o =
         let w = caller-of t (c .caller) (o .barred) (o .not-elected) in
         let l = caller-below (c .caller) w in
-        keep-changed (c .caller) (asCleared (c .a)) l (λ r k s. cleared-fits r k (c .a) (rw s (caller-ready (c .caller) w))) (λ e f g. g)
+        keep-changed (c .caller) (asCleared (c .a)) l (λ r k s. cleared-fits r k (c .a) (rw s (caller-ready (c .caller) w))) (λ e f g. g) (caller-awake (c .caller) w)
 
     enter-keeps : Keeps 6
     unfolding missing
@@ -151,10 +168,27 @@ module _ (t : Table) (p : Parts t) where
         let l = there (t .queues) (c .a) (or-left _ (badKey (c .c)) (o .nothing-missing)) in
         valid-parts _ (keep-retrieve t p (c .a) l (place (c .c) (queueOf t (c .a))) (queue-short t p (c .a) l))
 
+    arm-keeps : Keeps 10
+    unfolding missing
+    arm-keeps o =
+        let w = caller-of t (c .caller) (o .barred) (o .not-elected) in
+        let behind = or-right (absent timerRoom (c .a)) _ (o .nothing-missing) in
+        let e = there eventEnd (c .b) (or-left _ (badDelay (c .c)) behind) in
+        let delay = or-right (absent eventEnd (c .b)) _ behind in
+        let some : c .c ≢ 0 = eqb-false (c .c) 0 (or-left _ (ltb longestDelay (c .c)) delay) in
+        let most = ltb-false longestDelay (c .c) (or-right (isZero (c .c)) _ delay) in
+        valid-parts _ (keep-arm t p (c .a) (c .caller) (c .b) (c .c) (caller-below (c .caller) w) (caller-awake (c .caller) w) e (omega arith) most)
+
+    disarm-keeps : Keeps 11
+    disarm-keeps o = valid-parts _ (keep-disarm t p (c .a) (c .caller))
+
+    tick-keeps : Keeps 12
+    tick-keeps o = valid-parts _ (keep-tick t p)
+
     effect-keeps : Accepted t c → valid t ≡ true → valid (settled (effect t c .table)) ≡ true
     effect-keeps o v =
         each-effect t c (λ n e. Accepted t (numbered n c) → valid (settled (e .table)) ≡ true)
-        (start-keeps, (stop-keeps, (end-keeps, (signal-keeps, (wait-keeps, (clear-keeps, (enter-keeps, (exit-keeps, (send-keeps, (retrieve-keeps, tt))))))))))
+        (start-keeps, (stop-keeps, (end-keeps, (signal-keeps, (wait-keeps, (clear-keeps, (enter-keeps, (exit-keeps, (send-keeps, (retrieve-keeps, (arm-keeps, (disarm-keeps, (tick-keeps, tt)))))))))))))
         (λ n a. subst (λ u. valid u ≡ true) (ap (λ e. withElected e t) (p .elected)) v)
         o
 

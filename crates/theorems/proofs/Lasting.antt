@@ -1,32 +1,36 @@
 -- No signal is lost, and nobody waits with its condition met.
 use Prim.Native.Nat.{ℕ, _<_}
 use mathlib.Core.Path.{_≡_, refl, sym, ap, _∙_}
-use mathlib.Core.Bool.{Bool, true, false, _&&_, true≢false}
+use mathlib.Core.Bool.{Bool, true, false, cond, _&&_, true≢false}
 use mathlib.Core.List.{List, [], _∷_}
 use lib.Dec.{eqb}
 use borrow.Author.Tests.{eqb-true, eqb-false, eq-eqb, not-false}
 use Rattle.rules.specs.declared.Task.{Task}
+use Rattle.rules.specs.declared.Timer.{Timer}
 use Rattle.rules.specs.declared.Table.{Table}
 use Rattle.rules.specs.declared.Call.{Call}
 use Rattle.rules.specs.Numbers.{eventEnd, SIGNAL}
 use Rattle.rules.specs.Words.{isZero, byOperation}
 use Rattle.rules.specs.Events.{has, met, arrive}
 use Rattle.rules.specs.Tasks.{asStarted, asStopped, signalled, waited, asCleared}
+use Rattle.rules.specs.Timers.{later, isDue}
 use Rattle.rules.specs.Tables.{taskOf, changed}
+use Rattle.rules.specs.Validity.{shaped}
 use Rattle.rules.specs.Refusals.{absent, missing, wrongState, refusal}
-use Rattle.rules.specs.Effects.{Effect, nothing, operations, effect}
+use Rattle.rules.specs.Effects.{Effect, ringing, ticked, nothing, operations, effect}
 use Rattle.rules.specs.Step.{step}
 use Rattle.rules.proofs.Bools.{or-left, or-right, both, not-intro}
 use Rattle.rules.proofs.Bits.{bit-of-zero}
 use Rattle.rules.proofs.Events.{has-arrived, has-other, has-cleared}
 use Rattle.rules.proofs.Tasks.{signalled-arrived}
-use Rattle.rules.proofs.Columns.{changed-same, task-other}
+use Rattle.rules.proofs.Columns.{changed-same, task-other, changed-holds}
 use Rattle.rules.proofs.Validity.{Parts, parts-of, row-right, waits-unmet}
 use Rattle.rules.proofs.Refusals.{Accepted, accepted-facts}
 use Rattle.rules.proofs.Effects.{each-effect}
 use Rattle.theorems.specs.Kept.{afterAll}
 use Rattle.theorems.specs.Lasting.{arrivedAt, forgets, SignalArrives, EventStays, Remembered, NoSignalLost, NoneLeftWaiting}
 use Rattle.theorems.proofs.Rows.{below-room}
+use Rattle.theorems.proofs.Timers.{ring, ring-shaped}
 use Rattle.theorems.proofs.Kept.{caller-of, numbered, there, caller-below, valid-after}
 
 -- ---- one task
@@ -49,6 +53,20 @@ waited-arrived list operator r = go (met operator list (r .arrived)) refl
     go : (b : Bool) → met operator list (r .arrived) ≡ b → waited list operator r .arrived ≡ r .arrived
     go true e = rw e
     go false e = rw e
+
+signalled-has : (e d : ℕ) (r : Task) → has e (r .arrived) ≡ true → has e (signalled d r .arrived) ≡ true
+signalled-has e d r h = rw (signalled-arrived d r) (arrives-more e d (r .arrived) h)
+
+-- ---- the timers that are due
+
+pub ringing-has : (e i n : ℕ) (rs : List Timer) (t : Table) → shaped t ≡ true → arrivedAt t e i ≡ true → arrivedAt (ringing n rs t) e i ≡ true
+unfolding ringing
+ringing-has e i n [] t shape h = h
+ringing-has e i n (r ∷ rs) t shape h = ringing-has e i n rs (ring n r t) (ring-shaped n r t ∙ shape) (go (isDue n r))
+  where
+    go : (b : Bool) → arrivedAt (cond b (changed (r .owner) (signalled (r .event)) t) t) e i ≡ true
+    go true = changed-holds t shape (r .owner) (λ x. has e (x .arrived) ≡ true) (signalled (r .event)) (signalled-has e (r .event)) i h
+    go false = h
 
 -- ---- one call
 
@@ -102,7 +120,7 @@ module _ (t : Table) (p : Parts t) (c : Call) where
     unfolding missing
     signal-stays o k =
         changed-has (c .b) (signalled (c .a)) (there (t .tasks) (c .b) (or-right (absent eventEnd (c .a)) _ (o .nothing-missing)))
-        (λ same. rw (signalled-arrived (c .a) (taskOf t i)) (arrives-more e (c .a) (taskOf t i .arrived) h))
+        (λ same. signalled-has e (c .a) (taskOf t i) h)
 
     wait-stays : Stays 4 (byOperation nothing 4 operations t c)
     wait-stays o k =
@@ -117,10 +135,14 @@ module _ (t : Table) (p : Parts t) (c : Call) where
         let kept : has e (c .a) ≡ false = simp (eq-eqb (c .caller) i same) at (or-left (eqb (c .caller) i && has e (c .a)) false k) in
         has-cleared e (c .a) (taskOf t i .arrived) ∙ both h (not-intro _ kept))
 
+    tick-stays : Stays 12 (byOperation nothing 12 operations t c)
+    unfolding ticked
+    tick-stays o k = ringing-has e i (later (t .ticks) 1) (t .timers) t (p .shape) h
+
     effect-stays : Accepted t c → forgets e i c ≡ false → arrivedAt (effect t c .table) e i ≡ true
     effect-stays =
         each-effect t c Stays
-        (start-stays, (stop-stays, (end-stays, (signal-stays, (wait-stays, (clear-stays, (untouched, (untouched, (untouched, (untouched, tt))))))))))
+        (start-stays, (stop-stays, (end-stays, (signal-stays, (wait-stays, (clear-stays, (untouched, (untouched, (untouched, (untouched, (untouched, (untouched, (tick-stays, tt)))))))))))))
         (λ n. untouched)
 
   effect-arrives : Accepted t c → c .operation ≡ SIGNAL → arrivedAt (effect t c .table) (c .a) (c .b) ≡ true
@@ -152,7 +174,7 @@ event-stays t c e i k h = go (isZero (refusal t c)) refl
 
 -- ---- many calls
 
-stays-through : (t : Table) (cs : List Call) (e i : ℕ) → Remembered e i cs → arrivedAt t e i ≡ true → arrivedAt (afterAll t cs) e i ≡ true
+pub stays-through : (t : Table) (cs : List Call) (e i : ℕ) → Remembered e i cs → arrivedAt t e i ≡ true → arrivedAt (afterAll t cs) e i ≡ true
 stays-through t [] e i r h = h
 stays-through t (c ∷ cs) e i r h = stays-through (step t c .table) cs e i (r .1) (event-stays t c e i (r .0) h)
 

@@ -2,13 +2,16 @@
 pub mod Rows
 pub mod Regions
 pub mod Queues
+pub mod Timers
 pub mod Kept
 pub mod Fresh
 pub mod Signals
+pub mod Outers
 pub mod Split
 pub mod Order
 pub mod Damaged
 pub mod Refused
 pub mod Running
 pub mod Lasting
+pub mod Delays
 pub mod Examples

@@ -1,4 +1,5 @@
--- Demand 3: a run is two runs side by side, the tasks after the signals and the rest after the calls; only the first needs the permutation.
+-- Demand 3: a run is two runs side by side, tasks, timers and counter after what comes from outside, the rest after the calls; only the first
+-- needs the permutation.
 use Prim.Native.Nat.{_≤_}
 use mathlib.Core.Path.{_≡_, refl, sym, ap, ap₂, _∙_, subst, fun-ext}
 use mathlib.Core.Bool.{Bool, true, false}
@@ -10,10 +11,10 @@ use Rattle.rules.specs.Words.{isZero}
 use Rattle.rules.specs.Validity.{shaped, valid}
 use Rattle.rules.proofs.Validity.{parts-of, counts-fit}
 use Rattle.rules.proofs.Effects.{frame-kept}
-use Rattle.theorems.specs.Happenings.{Happening, outside, own, signalCall, run, calls, signals, Reply, callReplies, statusFirst, signalStatuses, InTurn, Free, Agree, Demand3}
+use Rattle.theorems.specs.Happenings.{Happening, outside, own, outerCall, run, calls, outers, Reply, callReplies, statusFirst, outerStatuses, InTurn, Free, Agree, Demand3}
 use Rattle.theorems.proofs.Kept.{valid-kept}
-use Rattle.theorems.proofs.Signals.{signalStatus, signalTable, signal-shaped, status-same, afterSignals, signals-permuted}
-use Rattle.theorems.proofs.Split.{mixed, valid-mixed, step-signal, restRefusal, callTable, callReply, step-call}
+use Rattle.theorems.proofs.Outers.{outerStatus, outerTable, outer-shaped, outer-status, afterOuters, outers-permuted}
+use Rattle.theorems.proofs.Split.{mixed, valid-mixed, step-outer, restRefusal, callTable, callReply, step-call}
 
 abbrev afterCalls : Table → List Call → Table
 afterCalls t [] = t
@@ -34,27 +35,27 @@ count-kept t c = go (isZero (restRefusal t c)) refl
 
 abbrev Apart : Table → Table → List Happening → Type 0
 Apart k t xs =
-    (run (mixed k t) xs ≡ mixed (afterSignals (t .tasks) k (signals xs)) (afterCalls t (calls xs)))
+    (run (mixed k t) xs ≡ mixed (afterOuters (t .tasks) k (outers xs)) (afterCalls t (calls xs)))
     × (callReplies (mixed k t) xs ≡ repliesOf t (calls xs))
-    × (signalStatuses (mixed k t) xs ≡ map (signalStatus (t .tasks) k) (signals xs))
+    × (outerStatuses (mixed k t) xs ≡ map (outerStatus (t .tasks) k) (outers xs))
 
 few : (k t : Table) → valid (mixed k t) ≡ true → t .tasks ≤ taskRoom
 few k t v = counts-fit _ _ _ (parts-of (mixed k t) v .counts) .0
 
 apart : (xs : List Happening) (k t : Table) → shaped k ≡ true → valid (mixed k t) ≡ true → Free (calls xs) → InTurn (mixed k t) xs → Apart k t xs
 apart [] k t sh v f i = (refl, refl, refl)
-apart (outside s ∷ xs) k t sh v f i =
+apart (outside o ∷ xs) k t sh v f i =
     let n = t .tasks in
-    let e = step-signal k t s v in
+    let e = step-outer k t v o in
     let ih =
-    apart xs (signalTable n k s) t (signal-shaped n (few k t v) k sh s)
-    (subst (λ u. valid u ≡ true) (e .0) (valid-kept (mixed k t) (signalCall s) v))
+    apart xs (outerTable n k o) t (outer-shaped n (few k t v) k sh o)
+    (subst (λ u. valid u ≡ true) (e .0) (valid-kept (mixed k t) (outerCall o) v))
     f
     (subst (λ u. InTurn u xs) (e .0) i) in (
       ap (λ u. run u xs) (e .0) ∙ ih .0,
       ap (λ u. callReplies u xs) (e .0) ∙ ih .1,
       ap₂ (λ x l. x ∷ l) (e .1)
-          (ap (λ u. signalStatuses u xs) (e .0) ∙ ih .2 ∙ ap (λ g. map g (signals xs)) (fun-ext (status-same n (few k t v) k sh s))),
+          (ap (λ u. outerStatuses u xs) (e .0) ∙ ih .2 ∙ ap (λ g. map g (outers xs)) (fun-ext (outer-status n (few k t v) k sh o))),
     )
 apart (own c ∷ xs) k t sh v f i =
     let e = step-call k t c (f .0) v (i .0) in
@@ -64,22 +65,22 @@ apart (own c ∷ xs) k t sh v f i =
     (subst (λ u. valid u ≡ true) (e .0) (valid-kept (mixed k t) c v))
     (f .1)
     (subst (λ u. InTurn u xs) (e .0) (i .1)) in (
-      ap (λ u. run u xs) (e .0) ∙ ih .0 ∙ ap (λ n. mixed (afterSignals n k (signals xs)) (afterCalls (callTable t c) (calls xs))) same,
+      ap (λ u. run u xs) (e .0) ∙ ih .0 ∙ ap (λ n. mixed (afterOuters n k (outers xs)) (afterCalls (callTable t c) (calls xs))) same,
       ap₂ (λ x l. x ∷ l) (e .1) (ap (λ u. callReplies u xs) (e .0) ∙ ih .1),
-      ap (λ u. signalStatuses u xs) (e .0) ∙ ih .2 ∙ ap (λ n. map (signalStatus n k) (signals xs)) same,
+      ap (λ u. outerStatuses u xs) (e .0) ∙ ih .2 ∙ ap (λ n. map (outerStatus n k) (outers xs)) same,
     )
 
-agree : (k t : Table) (xs ys : List Happening) → shaped k ≡ true → Free (calls xs) → calls xs ≡ calls ys → List·Permᴰ (signals xs) (signals ys)
+agree : (k t : Table) (xs ys : List Happening) → shaped k ≡ true → Free (calls xs) → calls xs ≡ calls ys → List·Permᴰ (outers xs) (outers ys)
     → valid (mixed k t) ≡ true → InTurn (mixed k t) xs → InTurn (mixed k t) ys → Agree (mixed k t) xs ys
 agree k t xs ys sh f c p v i j =
     let n = t .tasks in
     let x = apart xs k t sh v f i in
     let y = apart ys k t sh v (subst Free c f) j in
-    let first : signalStatus n k ≡ statusFirst (mixed k t) = fun-ext (λ s. sym (step-signal k t s v .1)) in (
-      x .0 ∙ ap₂ mixed (signals-permuted n (few k t v) p k sh) (ap (afterCalls t) c) ∙ sym (y .0),
+    let first : outerStatus n k ≡ statusFirst (mixed k t) = fun-ext (λ o. sym (step-outer k t v o .1)) in (
+      x .0 ∙ ap₂ mixed (outers-permuted n (few k t v) p k sh) (ap (afterCalls t) c) ∙ sym (y .0),
       x .1 ∙ ap (repliesOf t) c ∙ sym (y .1),
-      x .2 ∙ ap (λ g. map g (signals xs)) first,
-      y .2 ∙ ap (λ g. map g (signals ys)) first,
+      x .2 ∙ ap (λ g. map g (outers xs)) first,
+      y .2 ∙ ap (λ g. map g (outers ys)) first,
     )
 
 pub demand3 : Demand3

@@ -81,6 +81,7 @@ module _ (t : Table) (p : Parts t) (q : ℕ) (l : q < t .queues) where
           queues = queues-kept;
           criteria = every-laid criterionInRange q (criteria queue) (t .criterion) refl (p .criteria) small;
           elected = refl;
+          timers = p .timers;
         }
 
   -- ---- SEND and RETRIEVE

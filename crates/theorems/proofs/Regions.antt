@@ -118,6 +118,7 @@ module _ (t : Table) (p : Parts t) (who : ℕ) (is : who ≡ t .elected) (one : 
           queues = p .queues;
           criteria = p .criteria;
           elected = refl;
+          timers = p .timers;
         }
       where
         ready : {v : ℕ} → (v ≡ 0) ⊎ (v ≡ suc who) → holderRight (t .tasks) (t .state) v ≡ true

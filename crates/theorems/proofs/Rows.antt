@@ -3,12 +3,14 @@ use Prim.Native.Nat.{ℕ, zero, suc, _-_, _<_}
 use mathlib.Core.Path.{_≡_, refl, _∙_}
 use mathlib.Core.Logic.{_≢_}
 use mathlib.Core.Bool.{Bool, true, false, not, _&&_, false≢true, true≢false}
+use mathlib.Core.List.{List, map}
 use native.Mathlib.Omega.{arith}
 use lib.Dec.{eqb, ltb, leb}
-use lib.ListN.{getD, set}
+use lib.ListN.{getD, set, length}
 use lib.Seq.{getD-set-same, getD-set-other}
 use borrow.Author.Tests.{eqb-true, eqb-false, ltb-true, lt-ltb}
 use Rattle.rules.specs.declared.Task.{Task}
+use Rattle.rules.specs.declared.Timer.{Timer}
 use Rattle.rules.specs.declared.Table.{Table}
 use Rattle.rules.specs.Numbers.{taskRoom, listEnd}
 use Rattle.rules.specs.Words.{isZero}
@@ -16,12 +18,14 @@ use Rattle.rules.specs.Events.{met, arrive, cleared}
 use Rattle.rules.specs.Tasks.{isStopped, isReady, asStarted, asStopped, woken, signalled, waited, asCleared}
 use Rattle.rules.specs.Regions.{held}
 use Rattle.rules.specs.Election.{readyAt}
-use Rattle.rules.specs.Tables.{withTask, settled}
-use Rattle.rules.specs.Validity.{shaped}
+use Rattle.rules.specs.Timers.{disarmed}
+use Rattle.rules.specs.Tables.{withTask, withTimers, settled}
+use Rattle.rules.specs.Validity.{shaped, timerRight, timersRight}
 use Rattle.rules.proofs.Bools.{and-left, and-right, both, not-intro}
 use Rattle.rules.proofs.Counts.{below-at, below-all}
 use Rattle.rules.proofs.Events.{arrive-lt, cleared-le}
 use Rattle.rules.proofs.Columns.{columns-long, shaped-with}
+use Rattle.rules.proofs.Clock.{every-map, every-kept, awake-right, stopped-right, counter-fits, each-right, timers-shown}
 use Rattle.rules.proofs.Validity.{Row, row-shown, rowFits, tasksRight, holderRight, Parts, counts-fit}
 
 -- a task with this priority is right
@@ -69,6 +73,15 @@ module _ {priority : ℕ} (r : Task) (f : Fits priority r) where
         rest = f .rest;
         state-right = rw one refl;
       }
+
+-- who waits is not stopped
+pub waited-awake : (list operator : ℕ) (r : Task) → isStopped r ≡ false → isStopped (waited list operator r) ≡ false
+unfolding waited
+waited-awake list operator r n = go (met operator list (r .arrived)) refl
+  where
+    go : (b : Bool) → met operator list (r .arrived) ≡ b → isStopped (waited list operator r) ≡ false
+    go true e = rw e n
+    go false e = rw e refl
 
 abbrev task : ℕ → ℕ → ℕ → ℕ → Task
 task s a l o = record { state = s; arrived = a; list = l; operator = o }
@@ -157,6 +170,18 @@ module _ (t : Table) (p : Parts t) (i : ℕ) (r : Task) (l : i < t .tasks) where
           )
           (below-at _ taskRoom j (p .tasks) k)
 
+  -- a task that is not stopped now may own timers as before
+  pub timers-awake : isStopped r ≡ false → timersRight (t .tasks) (set (t .state) i (r .state)) (t .ticks) (t .timers) ≡ true
+  timers-awake n =
+      timers-shown (t .tasks) _ (t .ticks) (t .timers) (counter-fits _ _ _ _ (p .timers))
+      (every-kept (timerRight (t .tasks) (t .state) (t .ticks)) _ (λ q h. awake-right (t .tasks) (t .state) (t .ticks) q h i (r .state) (rw (columns-long t (p .shape) .state) room) n) (t .timers) (each-right _ _ _ _ (p .timers)))
+
+  -- one that is stopped owns none
+  pub timers-stopped : timersRight (t .tasks) (set (t .state) i (r .state)) (t .ticks) (map (disarmed i) (t .timers)) ≡ true
+  timers-stopped =
+      timers-shown (t .tasks) _ (t .ticks) (map (disarmed i) (t .timers)) (counter-fits _ _ _ _ (p .timers))
+      (every-map (timerRight (t .tasks) (t .state) (t .ticks)) _ (disarmed i) (λ q h. stopped-right (t .tasks) (t .state) (t .ticks) q h i (r .state)) (t .timers) (each-right _ _ _ _ (p .timers)))
+
   -- the holder is ready still: where it is the task that is changed, that one is
   holder-kept : (isZero (held (t .holder)) ≡ false → held (t .holder) - 1 ≡ i → readyAt (t .state) i ≡ true → isReady r ≡ true)
       → holderRight (t .tasks) (set (t .state) i (r .state)) (held (t .holder)) ≡ true
@@ -179,13 +204,16 @@ module _ (t : Table) (p : Parts t) (i : ℕ) (r : Task) (l : i < t .tasks) where
               rw (getD-set-other (t .state) i (held (t .holder) - 1) (r .state) 0 (eqb-false _ _ f))
               (and-right (leb (held (t .holder)) (t .tasks)) _ was)
 
+  -- and the timers with it
   pub keep-task : Fits (getD (t .priority) i 0) r
-      → (isZero (held (t .holder)) ≡ false → held (t .holder) - 1 ≡ i → readyAt (t .state) i ≡ true → isReady r ≡ true)
-      → Parts (settled (withTask i r t))
+      → (isZero (held (t .holder)) ≡ false → held (t .holder) - 1 ≡ i → readyAt (t .state) i ≡ true → isReady r ≡ true) → (timers : List Timer)
+      → length timers ≡ length (t .timers)
+      → timersRight (t .tasks) (set (t .state) i (r .state)) (t .ticks) timers ≡ true
+      → Parts (settled (withTimers (t .ticks) timers (withTask i r t)))
   unfolding shaped
-  keep-task f k =
+  keep-task f k timers long right =
       record {
-        shape = shaped-with i r t ∙ p .shape;
+        shape = rw long (shaped-with i r t ∙ p .shape);
         counts = p .counts;
         tasks = tasks-kept f;
         regions = p .regions;
@@ -193,4 +221,5 @@ module _ (t : Table) (p : Parts t) (i : ℕ) (r : Task) (l : i < t .tasks) where
         queues = p .queues;
         criteria = p .criteria;
         elected = refl;
+        timers = right;
       }

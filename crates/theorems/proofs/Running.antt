@@ -1,6 +1,6 @@
 -- Who runs: after every call, and inside a region.
 use Prim.Native.Nat.{ℕ, suc, _-_, _<_}
-use mathlib.Core.Path.{_≡_, refl, sym, _∙_}
+use mathlib.Core.Path.{_≡_, refl, sym, ap, _∙_}
 use mathlib.Core.Logic.{_≢_, _⊎_, inl, inr}
 use mathlib.Core.Bool.{Bool, true, false, true≢false, false≢true}
 use mathlib.Core.List.{[], _∷_}
@@ -9,12 +9,13 @@ use lib.Dec.{eqb, ltb}
 use borrow.Author.Tests.{eqb-true, eqb-false, ltb-true, ltb-false, leb-true, not-false}
 use Rattle.rules.specs.declared.Table.{Table}
 use Rattle.rules.specs.declared.Call.{Call}
-use Rattle.rules.specs.Numbers.{taskRoom, priorityEnd, nobody, outside, SIGNAL, EXIT}
+use Rattle.rules.specs.Numbers.{taskRoom, priorityEnd, nobody, outside, SIGNAL, EXIT, TICK}
 use Rattle.rules.specs.Words.{isZero, altered, byOperation}
 use Rattle.rules.specs.Regions.{held, occupied, holderOf, entered, exited}
+use Rattle.rules.specs.Timers.{later}
 use Rattle.rules.specs.Election.{readyAt, priorityAt, bestReady}
 use Rattle.rules.specs.Refusals.{missing, refusal}
-use Rattle.rules.specs.Effects.{Effect, nothing, operations, effect}
+use Rattle.rules.specs.Effects.{Effect, ticked, nothing, operations, effect}
 use Rattle.rules.specs.Step.{step}
 use Rattle.rules.proofs.Bools.{given}
 use Rattle.rules.proofs.Lists.{altered-here}
@@ -22,7 +23,7 @@ use Rattle.rules.proofs.Regions.{held-free}
 use Rattle.rules.proofs.Election.{best-wins, best-nobody, election-held, election-free}
 use Rattle.rules.proofs.Validity.{Parts, parts-of, held-fits, row-right, row-zero, rowZero, counts-fit, elected-ready, elected-below}
 use Rattle.rules.proofs.Refusals.{Accepted, accepted-facts}
-use Rattle.rules.proofs.Effects.{each-effect}
+use Rattle.rules.proofs.Effects.{each-effect, ringing-same}
 use Rattle.theorems.specs.Running.{Runs, RightOneRuns, OnlyHolder, FreedByExit, HolderStays}
 use Rattle.theorems.proofs.Regions.{holder-elected, enter-fits, exit-fits, region-there, held-after}
 use Rattle.theorems.proofs.Rows.{below-room}
@@ -86,18 +87,26 @@ right-one-runs t c z = runs (step t c .table) (parts-of _ (valid-kept t c (accep
 
 -- ---- inside a region
 
+-- no timer touches a region
+ticked-holder : (t : Table) → ticked t .holder ≡ t .holder
+unfolding ticked
+ticked-holder t = ringing-same (λ u. u .holder) (λ i f u. refl) (later (t .ticks) 1) (t .timers) t
+
 pub only-holder : OnlyHolder
-only-holder t c h z = go (eqb (c .caller) outside) (eqb (c .operation) SIGNAL) (eqb (c .caller) (t .elected)) refl refl refl
+only-holder t c h z =
+    go (eqb (c .caller) outside) (eqb (c .operation) SIGNAL) (eqb (c .operation) TICK) (eqb (c .caller) (t .elected)) refl refl refl refl
   where
     o : Accepted t c
     o = accepted-facts t c z
 
-    go : (b s e : Bool) → eqb (c .caller) outside ≡ b → eqb (c .operation) SIGNAL ≡ s → eqb (c .caller) (t .elected) ≡ e
-        → (c .caller ≡ holderOf (t .holder)) ⊎ ((c .caller ≡ outside) × (c .operation ≡ SIGNAL))
-    go true true e x y w = inr (eqb-true _ _ x, eqb-true _ _ y)
-    go true false e x y w = absurd (true≢false (simp (x, y) at (o .barred)))
-    go false s true x y w = inl (eqb-true _ _ w ∙ holder-elected t (parts-of t (o .is-valid)) h)
-    go false s false x y w = absurd (true≢false (simp (x, w) at (o .not-elected)))
+    go : (b s k e : Bool) → eqb (c .caller) outside ≡ b → eqb (c .operation) SIGNAL ≡ s → eqb (c .operation) TICK ≡ k
+        → eqb (c .caller) (t .elected) ≡ e
+        → (c .caller ≡ holderOf (t .holder)) ⊎ ((c .caller ≡ outside) × ((c .operation ≡ SIGNAL) ⊎ (c .operation ≡ TICK)))
+    go true true k e x y v w = inr (eqb-true _ _ x, inl (eqb-true _ _ y))
+    go true false true e x y v w = inr (eqb-true _ _ x, inr (eqb-true _ _ v))
+    go true false false e x y v w = absurd (true≢false (simp (x, y, v) at (o .barred)))
+    go false s k true x y v w = inl (eqb-true _ _ w ∙ holder-elected t (parts-of t (o .is-valid)) h)
+    go false s k false x y v w = absurd (true≢false (simp (x, w) at (o .not-elected)))
 
 module _ (t : Table) (p : Parts t) (c : Call) (h : occupied (t .holder) ≡ true) where
   -- after ENTER and EXIT a region that is occupied still is the caller's
@@ -126,10 +135,13 @@ module _ (t : Table) (p : Parts t) (c : Call) (h : occupied (t .holder) ≡ true
       let l = there (t .regions) (c .a) (o .nothing-missing) in
       own (exited (c .caller)) w (held-after t p (c .caller) (w .is) (w .one) (c .a) (exited (c .caller)) l (exit-fits (t .regions) (c .a) (c .caller)))
 
+  tick-stays : Stays 12 (byOperation nothing 12 operations t c)
+  tick-stays o k = ap holderOf (ticked-holder t) ∙ sym (holder-elected t p h)
+
   effect-stays : Accepted t c → occupied (effect t c .table .holder) ≡ true → holderOf (effect t c .table .holder) ≡ t .elected
   effect-stays =
       each-effect t c Stays
-      (untouched, (untouched, (untouched, (untouched, (untouched, (untouched, (enter-stays, (exit-stays, (untouched, (untouched, tt))))))))))
+      (untouched, (untouched, (untouched, (untouched, (untouched, (untouched, (enter-stays, (exit-stays, (untouched, (untouched, (untouched, (untouched, (tick-stays, tt)))))))))))))
       (λ n. untouched)
 
   stays : occupied (step t c .table .holder) ≡ true → step t c .table .elected ≡ t .elected
@@ -168,10 +180,13 @@ module _ (t : Table) (p : Parts t) (c : Call) (h : occupied (t .holder) ≡ true
   exit-ends : Ended 7 (byOperation nothing 7 operations t c)
   exit-ends o k = (refl, caller-of t (c .caller) (o .barred) (o .not-elected) .is ∙ holder-elected t p h)
 
+  tick-occupies : Ended 12 (byOperation nothing 12 operations t c)
+  tick-occupies o k = not-ended o (ap occupied (sym (ticked-holder t)) ∙ k)
+
   ended : Accepted t c → occupied (effect t c .table .holder) ≡ false → (c .operation ≡ EXIT) × (c .caller ≡ holderOf (t .holder))
   ended =
       each-effect t c Ended
-      (not-ended, (not-ended, (not-ended, (not-ended, (not-ended, (not-ended, (enter-occupies, (exit-ends, (not-ended, (not-ended, tt))))))))))
+      (not-ended, (not-ended, (not-ended, (not-ended, (not-ended, (not-ended, (enter-occupies, (exit-ends, (not-ended, (not-ended, (not-ended, (not-ended, (tick-occupies, tt)))))))))))))
       (λ n. not-ended)
 
 pub freed-by-exit : FreedByExit

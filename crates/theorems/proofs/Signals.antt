@@ -2,7 +2,6 @@
 use Prim.Native.Nat.{ℕ, _<_, _≤_}
 use mathlib.Core.Path.{_≡_, refl, ap, _∙_}
 use mathlib.Core.Bool.{Bool, true, false, cond, _||_}
-use mathlib.Core.List.{List, [], _∷_, List·Permᴰ, List·Permᴰ·nil, List·Permᴰ·cons, List·Permᴰ·swap, List·Permᴰ·trans}
 use native.Mathlib.Omega.{arith}
 use borrow.Author.Tests.{eqb-true}
 use Rattle.rules.specs.declared.Table.{Table}
@@ -30,7 +29,7 @@ signalTable n t s = cond (isZero (signalStatus n t s)) (changed (s .task) (signa
 
 module _ (n : ℕ) (few : n ≤ taskRoom) (t : Table) (shape : shaped t ≡ true) where
   -- a signal that is heard is for a task
-  heard-room : (s : Signal) → isZero (signalStatus n t s) ≡ true → s .task < taskRoom
+  pub heard-room : (s : Signal) → isZero (signalStatus n t s) ≡ true → s .task < taskRoom
   unfolding signalStatus bad
   heard-room s z = go (bad n s) refl
     where
@@ -71,20 +70,3 @@ module _ (n : ℕ) (few : n ≤ taskRoom) (t : Table) (shape : shaped t ≡ true
       go true false z z′ = simp (z, z′)
       go false true z z′ = simp (z, z′)
       go false false z z′ = simp (z, z′)
-
--- ---- many signals
-
-abbrev pub afterSignals : ℕ → Table → List Signal → Table
-afterSignals n t [] = t
-afterSignals n t (s ∷ ss) = afterSignals n (signalTable n t s) ss
-
--- their order does not matter
-pub signals-permuted : (n : ℕ) → n ≤ taskRoom → {ss ss′ : List Signal} → List·Permᴰ ss ss′ → (t : Table) → shaped t ≡ true
-    → afterSignals n t ss ≡ afterSignals n t ss′
-signals-permuted n few List·Permᴰ·nil t shape = refl
-signals-permuted n few (List·Permᴰ·cons {a = a} {b = b} {l₂ = l₂} e p) t shape =
-    signals-permuted n few p (signalTable n t a) (signal-shaped n few t shape a) ∙ ap (λ x. afterSignals n (signalTable n t x) l₂) e
-signals-permuted n few (List·Permᴰ·swap {a = a} {b = b} {a′ = a′} {b′ = b′} {l = l} e e′) t shape =
-    ap (λ x. afterSignals n x l)
-    (signal-comm n few t shape a b ∙ ap (λ x. signalTable n (signalTable n t b) x) e ∙ ap (λ x. signalTable n (signalTable n t x) b′) e′)
-signals-permuted n few (List·Permᴰ·trans p q) t shape = signals-permuted n few p t shape ∙ signals-permuted n few q t shape

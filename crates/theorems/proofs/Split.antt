@@ -1,33 +1,39 @@
--- A table is its tasks and the rest, and the elected task is a function of both: a signal changes the tasks, a call that passes SIGNAL the rest.
+-- A table is its tasks with timers and counter, and the rest, and the elected task is a function of both: what comes from outside changes the
+-- first, a call that passes SIGNAL the rest.
 use Prim.Native.Nat.{ℕ}
-use mathlib.Core.Path.{_≡_, refl, ap}
+use mathlib.Core.Path.{_≡_, refl, ap, _∙_}
 use mathlib.Core.Bool.{Bool, true, false, cond, _&&_, and-false, and-true}
-use mathlib.Core.List.{List, [], _∷_}
+use mathlib.Core.List.{List, [], _∷_, map}
 use lib.Dec.{eqb, leb}
 use lib.ListN.{length}
 use borrow.Author.Tests.{eq-eqb}
+use Rattle.rules.specs.declared.Timer.{Timer}
 use Rattle.rules.specs.declared.Table.{Table}
 use Rattle.rules.specs.declared.Call.{Call}
-use Rattle.rules.specs.Numbers.{outside, SEND, RETRIEVE}
+use Rattle.rules.specs.Numbers.{outside, SEND, RETRIEVE, TICK}
 use Rattle.rules.specs.Words.{isZero, Reason, when, first}
-use Rattle.rules.specs.Tasks.{isStopped}
+use Rattle.rules.specs.Tasks.{isStopped, signalled}
 use Rattle.rules.specs.Queues.{noneFits}
-use Rattle.rules.specs.Tables.{taskOf, boundOf, queueOf, withElected, settled}
+use Rattle.rules.specs.Timers.{later, isDue, rung}
+use Rattle.rules.specs.Tables.{taskOf, boundOf, queueOf, changed, withTimers, withElected, electionOf, settled}
 use Rattle.rules.specs.Validity.{valid}
+use Rattle.rules.specs.Answers.{done}
 use Rattle.rules.specs.Refusals.{missing, wrongState, leaves, reasons, refusal}
-use Rattle.rules.specs.Effects.{effect}
+use Rattle.rules.specs.Effects.{ringing, ticked, effect}
 use Rattle.rules.specs.Step.{step}
 use Rattle.rules.proofs.Validity.{parts-of}
 use Rattle.exclusion.specs.Marks.{passesSignal}
 use Rattle.exclusion.proofs.Table.{passes-cases}
-use Rattle.theorems.specs.Happenings.{Signal, signalCall, Reply, reply}
+use Rattle.theorems.specs.Happenings.{Signal, Outer, signal, tick, outerCall, Reply, reply, TickAccepted}
 use Rattle.theorems.proofs.Kept.{numbered}
+use Rattle.theorems.proofs.Timers.{ring}
 use Rattle.theorems.proofs.Signals.{bad, signalStatus, signalTable}
+use Rattle.theorems.proofs.Outers.{outerStatus, outerTable}
 
--- the tasks of one table and the rest of another, with the elected task that they give
-abbrev pub mixed : Table → Table → Table
-mixed tasks rest =
-    settled (record {
+-- the tasks, timers and counter of one table and the rest of another
+abbrev joined : Table → Table → Table
+joined tasks rest =
+    record {
       tasks = rest .tasks;
       regions = rest .regions;
       queues = rest .queues;
@@ -42,27 +48,67 @@ mixed tasks rest =
       length = rest .length;
       element = rest .element;
       criterion = rest .criterion;
-    })
+      ticks = tasks .ticks;
+      timers = tasks .timers;
+    }
+
+-- with the elected task that they give
+abbrev pub mixed : Table → Table → Table
+mixed tasks rest = settled (joined tasks rest)
 
 pub valid-mixed : (t : Table) → valid t ≡ true → t ≡ mixed t t
 valid-mixed t v = ap (λ e. withElected e t) (parts-of t v .elected)
 
--- ---- a signal
+-- ---- what comes from outside
 
-module _ (k t : Table) (s : Signal) (v : valid (mixed k t) ≡ true) where
-  abbrev Signalled : Type 0
-  Signalled =
-      (step (mixed k t) (signalCall s) .table ≡ mixed (signalTable (t .tasks) k s) t)
-      × (step (mixed k t) (signalCall s) .answer .status ≡ signalStatus (t .tasks) k s)
+-- the timers that are due signal tasks alone
+ringing-mixed : (n : ℕ) (rs : List Timer) (who : ℕ) (k t : Table) → ringing n rs (withElected who (joined k t)) ≡ withElected who (joined (ringing n rs k) t)
+unfolding ringing
+ringing-mixed n [] who k t = refl
+ringing-mixed n (r ∷ rs) who k t = ap (ringing n rs) (go (isDue n r)) ∙ ringing-mixed n rs who (ring n r k) t
+  where
+    go : (b : Bool)
+        → cond b (changed (r .owner) (signalled (r .event)) (withElected who (joined k t))) (withElected who (joined k t))
+        ≡ withElected who (joined (cond b (changed (r .owner) (signalled (r .event)) k) k) t)
+    go true = refl
+    go false = refl
 
-  pub step-signal : Signalled
+ticked-mixed : (k t : Table) → settled (ticked (mixed k t)) ≡ mixed (ticked k) t
+unfolding ticked
+ticked-mixed k t =
+    let n = later (k .ticks) 1 in
+    ap (λ u. settled (withTimers n (map (rung n) (k .timers)) u)) (ringing-mixed n (k .timers) (electionOf (joined k t)) k t)
+
+module _ (k t : Table) (v : valid (mixed k t) ≡ true) where
+  abbrev Came : Outer → Type 0
+  Came o =
+      (step (mixed k t) (outerCall o) .table ≡ mixed (outerTable (t .tasks) k o) t)
+      × (step (mixed k t) (outerCall o) .answer .status ≡ outerStatus (t .tasks) k o)
+
+  step-signal : (s : Signal) → Came (signal s)
   unfolding step refusal reasons missing wrongState leaves effect signalTable signalStatus bad
-  step-signal = go (bad (t .tasks) s) (isStopped (taskOf k (s .task))) refl refl
+  step-signal s = go (bad (t .tasks) s) (isStopped (taskOf k (s .task))) refl refl
     where
-      go : (b c : Bool) → bad (t .tasks) s ≡ b → isStopped (taskOf k (s .task)) ≡ c → Signalled
+      go : (b c : Bool) → bad (t .tasks) s ≡ b → isStopped (taskOf k (s .task)) ≡ c → Came (signal s)
       go true c h e = (simp (v, h), simp (v, h))
       go false true h e = (simp (v, h, e), simp (v, h, e))
       go false false h e = (simp (v, h, e), simp (v, h, e))
+
+  step-tick : Came tick
+  unfolding step refusal reasons missing wrongState leaves effect
+  step-tick = (simp v (ticked-mixed k t), simp v)
+
+  pub step-outer : (o : Outer) → Came o
+  step-outer (signal s) = step-signal s
+  step-outer tick = step-tick
+
+-- a TICK from outside, whatever its numbers say
+pub tick-done : (t : Table) (c : Call) → valid t ≡ true → c .caller ≡ outside → c .operation ≡ TICK → step t c ≡ done (settled (ticked t)) 0 0 0
+unfolding step refusal reasons missing wrongState leaves effect
+tick-done t c v who is = simp (v, who, is)
+
+pub tick-accepted : TickAccepted
+tick-accepted t v = ap (λ d. d .answer .status) (tick-done t (outerCall tick) v refl refl)
 
 -- ---- a call that passes SIGNAL
 

@@ -7,11 +7,12 @@ use Rattle.rules.specs.declared.Table.{Table}
 use Rattle.rules.specs.declared.Call.{Call}
 use Rattle.rules.specs.declared.Answer.{Answer}
 use Rattle.rules.specs.declared.Done.{Done}
-use Rattle.rules.specs.Numbers.{START, WAIT, ENTER, SEND}
+use Rattle.rules.specs.Numbers.{START, WAIT, ENTER, SEND, ARM, DISARM}
+use Rattle.rules.specs.Tables.{taskOf, timerOf, withTimers}
 use Rattle.rules.specs.Answers.{refused}
 use Rattle.rules.specs.Fresh.{freshTable}
 use Rattle.rules.specs.Step.{step}
-use Rattle.theorems.specs.Happenings.{Signal, Happening, outside, own, run, calls, signals, callReplies, signalStatuses, InTurn, Free}
+use Rattle.theorems.specs.Happenings.{Outer, signal, tick, Happening, outside, own, run, calls, outers, callReplies, outerStatuses, InTurn, Free}
 use Rattle.theorems.specs.Kept.{afterAll}
 
 -- "priorities 5, 5, 2, two regions, one queue of bound 2"
@@ -21,8 +22,8 @@ begun = freshTable 3 2 1 (5 ∷ 5 ∷ 2 ∷ []) (2 ∷ [])
 abbrev pub by : ℕ → ℕ → ℕ → ℕ → ℕ → Call
 by caller operation a b c = record { caller = caller; operation = operation; a = a; b = b; c = c }
 
-abbrev pub event : ℕ → ℕ → Signal
-event e i = record { event = e; task = i }
+abbrev pub event : ℕ → ℕ → Outer
+event e i = signal (record { event = e; task = i })
 
 -- ---- two signals and two calls, arranged in two ways: the same end
 
@@ -36,12 +37,33 @@ behind = own (by 0 ENTER 0 0 0) ∷ outside (event 1 0) ∷ own (by 0 SEND 0 7 3
 pub record Premise (t : Table) (xs ys : List Happening) : Type 0 where
   pub free : Free (calls xs)
   pub same-calls : calls xs ≡ calls ys
-  pub same-signals : List·Permᴰ (signals xs) (signals ys)
+  pub same-outers : List·Permᴰ (outers xs) (outers ys)
   pub first-in-turn : InTurn t xs
   pub then-in-turn : InTurn t ys
 
 abbrev pub SameEnd : Type 0
 SameEnd = Premise begun before behind × (run begun before ≡ run begun behind)
+
+-- ---- two ticks, over the end of the counter, among a signal and two calls: the same end, and the delay is over
+
+-- the counter at its last number, and a timer of task 0 for its event 3 in two ticks
+abbrev pub counting : Table
+counting = step (withTimers 4294967295 (begun .timers) begun) (by 0 ARM 5 3 2) .table
+
+abbrev pub ticksFirst : List Happening
+ticksFirst = outside tick ∷ outside tick ∷ own (by 0 ENTER 0 0 0) ∷ outside (event 1 0) ∷ own (by 0 SEND 0 7 3) ∷ []
+
+abbrev pub ticksLater : List Happening
+ticksLater = own (by 0 ENTER 0 0 0) ∷ outside (event 1 0) ∷ outside tick ∷ own (by 0 SEND 0 7 3) ∷ outside tick ∷ []
+
+abbrev pub SameEndTicking : Type 0
+SameEndTicking =
+    Premise counting ticksFirst ticksLater
+    × (run counting ticksFirst ≡ run counting ticksLater)
+    × (timerOf counting 5 .date ≡ 1)
+    × (run counting ticksFirst .ticks ≡ 1)
+    × (taskOf (run counting ticksFirst) 0 .arrived ≡ 10)
+    × (taskOf (run counting ticksLater) 0 .arrived ≡ 10)
 
 -- ---- a signal that elects another task: a call behind it is not in turn, and is refused
 
@@ -62,8 +84,20 @@ NotInTurn = InTurn waits early × (InTurn waits late → ⊥) × (callReplies wa
 
 abbrev pub NotFree : Type 0
 NotFree =
-    signalStatuses begun (own (by 0 START 1 0 0) ∷ outside (event 0 1) ∷ [])
-    ≢ signalStatuses begun (outside (event 0 1) ∷ own (by 0 START 1 0 0) ∷ [])
+    outerStatuses begun (own (by 0 START 1 0 0) ∷ outside (event 0 1) ∷ [])
+    ≢ outerStatuses begun (outside (event 0 1) ∷ own (by 0 START 1 0 0) ∷ [])
+
+-- ---- "no ARM or DISARM": behind the ARM the tick is the last of its delay, before it the timer has that tick to come
+
+abbrev pub NotPastArm : Type 0
+NotPastArm =
+    taskOf (run begun (own (by 0 ARM 0 0 1) ∷ outside tick ∷ [])) 0 .arrived
+    ≢ taskOf (run begun (outside tick ∷ own (by 0 ARM 0 0 1) ∷ [])) 0 .arrived
+
+abbrev pub NotPastDisarm : Type 0
+NotPastDisarm =
+    taskOf (run begun (own (by 0 ARM 0 0 1) ∷ own (by 0 DISARM 0 0 0) ∷ outside tick ∷ [])) 0 .arrived
+    ≢ taskOf (run begun (own (by 0 ARM 0 0 1) ∷ outside tick ∷ own (by 0 DISARM 0 0 0) ∷ [])) 0 .arrived
 
 -- ---- programs that satisfy demand 3 alone, and do not meet the step
 

@@ -11,7 +11,7 @@ use Rattle.rules.specs.Fresh.{configurationInRange, freshTable, zeroTable}
 use Rattle.rules.specs.Refusals.{refusal}
 use Rattle.rules.specs.Step.{step}
 
--- each of the ten operations, and each number past them, accepted or refused
+-- each of the thirteen operations, and each number past them, accepted or refused
 abbrev pub ValidKept : Type 0
 ValidKept = (t : Table) (c : Call) → valid t ≡ true → valid (step t c .table) ≡ true
 

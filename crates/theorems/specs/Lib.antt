@@ -4,4 +4,5 @@ pub mod Happenings
 pub mod Refused
 pub mod Running
 pub mod Lasting
+pub mod Delays
 pub mod Examples

@@ -6,7 +6,7 @@ use mathlib.Core.Bool.{true, false}
 use mathlib.Core.List.{List, [], _∷_}
 use Rattle.rules.specs.declared.Table.{Table}
 use Rattle.rules.specs.declared.Call.{Call}
-use Rattle.rules.specs.Numbers.{taskRoom, nobody, outside, SIGNAL, EXIT}
+use Rattle.rules.specs.Numbers.{taskRoom, nobody, outside, SIGNAL, EXIT, TICK}
 use Rattle.rules.specs.Regions.{occupied, holderOf}
 use Rattle.rules.specs.Election.{readyAt}
 use Rattle.rules.specs.Validity.{valid}
@@ -26,11 +26,11 @@ pub record Runs (t : Table) : Type 0 where
 abbrev pub RightOneRuns : Type 0
 RightOneRuns = (t : Table) (c : Call) → refusal t c ≡ 0 → Runs (step t c .table)
 
--- while a region is held, only its holder's calls are accepted, and signals from outside
+-- while a region is held, only its holder's calls are accepted, and signals and ticks from outside
 abbrev pub OnlyHolder : Type 0
 OnlyHolder =
     (t : Table) (c : Call) → occupied (t .holder) ≡ true → refusal t c ≡ 0
-    → (c .caller ≡ holderOf (t .holder)) ⊎ ((c .caller ≡ outside) × (c .operation ≡ SIGNAL))
+    → (c .caller ≡ holderOf (t .holder)) ⊎ ((c .caller ≡ outside) × ((c .operation ≡ SIGNAL) ⊎ (c .operation ≡ TICK)))
 
 -- it ends by the holder's EXIT, and by nothing else
 abbrev pub FreedByExit : Type 0
@@ -43,7 +43,7 @@ abbrev pub Inside : Table → List Call → Type 0
 Inside t [] = Unit {0}
 Inside t (c ∷ cs) = (occupied (step t c .table .holder) ≡ true) × Inside (step t c .table) cs
 
--- and the elected task stays, whatever is started or signalled
+-- and the elected task stays, whatever is started or signalled, by whatever timer
 abbrev pub HolderStays : Type 0
 HolderStays =
     (t : Table) (cs : List Call) → valid t ≡ true → occupied (t .holder) ≡ true → Inside t cs → afterAll t cs .elected ≡ t .elected

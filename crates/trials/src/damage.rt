@@ -1,5 +1,18 @@
 // A table with one number of it changed.
 use rules::Table;
+use rules::Timer;
+
+// The timer with n in that field.
+fn spoiled_timer(mut r: Timer, field: u32, n: u32) -> Timer {
+    let byte = (n % 256) as u8;
+    match field {
+        15 => r.armed = byte,
+        16 => r.owner = byte,
+        17 => r.event = byte,
+        _ => r.date = n,
+    }
+    r
+}
 
 // The table with n in that field, at that entry where the field is an array. A field that is narrower takes the lowest bits.
 pub(crate) fn spoiled(mut t: Table, field: u32, entry: u32, n: u32) -> Table {
@@ -21,7 +34,12 @@ pub(crate) fn spoiled(mut t: Table, field: u32, entry: u32, n: u32) -> Table {
         10 => t.bound[at % 8] = byte,
         11 => t.length[at % 8] = byte,
         12 => t.element[at] = n,
-        _ => t.criterion[at] = byte,
+        13 => t.criterion[at] = byte,
+        14 => t.ticks = n,
+        _ => {
+            let r = t.timers[at % 16];
+            t.timers[at % 16] = spoiled_timer(r, field, n);
+        }
     }
     t
 }

@@ -13,6 +13,8 @@ pub(crate) const ENTER: u8 = 6;
 
 pub(crate) const SEND: u8 = 8;
 
+pub(crate) const ARM: u8 = 10;
+
 // WAIT's operator.
 pub(crate) const ALL: u32 = 0;
 

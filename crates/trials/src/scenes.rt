@@ -1,5 +1,6 @@
-// Tables that trials start from. Each but the last two is reached from a fresh one by calls, so that it is valid.
+// Tables that trials start from. Each but `zeros`, `wrong` and `turning` is reached from a fresh one by calls, so that it is valid.
 use super::names::ALL;
+use super::names::ARM;
 use super::names::END;
 use super::names::ENTER;
 use super::names::OUTSIDE;
@@ -11,6 +12,7 @@ use executive::call;
 use executive::fresh;
 use rules::Call;
 use rules::Table;
+use rules::Timer;
 
 // A call whose answer nobody looks at.
 fn after(t: Table, caller: u8, operation: u8, a: u32, b: u32, c: u32) -> Table {
@@ -82,12 +84,26 @@ pub(crate) fn zeros() -> Table {
         length: [0; 8],
         element: [0; 512],
         criterion: [0; 512],
+        ticks: 0,
+        timers: [Timer {
+            armed: 0,
+            owner: 0,
+            event: 0,
+            date: 0,
+        }; 16],
     }
 }
 
 fn wrong() -> Table {
     let mut t = busy();
     t.elected = 1;
+    t
+}
+
+// No log reaches the end of the counter, so that it is set.
+fn turning() -> Table {
+    let mut t = fresh_one();
+    t.ticks = 4294967294;
     t
 }
 
@@ -121,6 +137,10 @@ pub(crate) fn table_of(scene: u32, before: Table) -> Table {
         11 => zeros(),
         // wrong: as busy, but with task 1 as the elected one: not valid.
         12 => wrong(),
+        // turning: as fresh, but with the counter two ticks before it starts again.
+        13 => turning(),
+        // armed: as fresh, and task 0 has armed timer 0 for its event 1, five ticks ahead.
+        14 => after(fresh_one(), 0, ARM, 0, 1, 5),
         // then
         _ => before,
     }

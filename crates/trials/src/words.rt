@@ -44,13 +44,13 @@ fn named(word: &[u8], names: &[u8], first: u16, other: u32) -> u32 {
 fn name_of(word: &[u8]) -> u32 {
     let n = named(
         word,
-        b"fresh signalled held full rivals asleep ended busy largest last filled zeros wrong then ",
+        b"fresh signalled held full rivals asleep ended busy largest last filled zeros wrong turning armed then ",
         0,
         NOTHING,
     );
     let n = named(
         word,
-        b"START STOP END SIGNAL WAIT CLEAR ENTER EXIT SEND RETRIEVE ",
+        b"START STOP END SIGNAL WAIT CLEAR ENTER EXIT SEND RETRIEVE ARM DISARM TICK ",
         0,
         n,
     );
@@ -62,7 +62,7 @@ fn name_of(word: &[u8]) -> u32 {
     );
     let n = named(
         word,
-        b"tasks regions queues elected priority state arrived list operator holder bound length element criterion ",
+        b"tasks regions queues elected priority state arrived list operator holder bound length element criterion ticks flag owner event date ",
         0,
         n,
     );

@@ -25,6 +25,8 @@ withOldest x t =
       length = t .length;
       element = set (t .element) 0 x;
       criterion = t .criterion;
+      ticks = t .ticks;
+      timers = t .timers;
     }
 
 -- where the checks stand: the table, the number to store before the next check, and how many were valid

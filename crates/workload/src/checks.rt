@@ -15,6 +15,7 @@ fn checks_of(mut t: Table, mut x: u32, checks: u32) -> u32
     let mut n: u32 = 0;
     for i in 0..checks {
         t.element[0] = x;
+        let timers = t.timers;
         let ok = valid_of(
             t.tasks,
             t.regions,
@@ -30,6 +31,8 @@ fn checks_of(mut t: Table, mut x: u32, checks: u32) -> u32
             &t.length,
             &t.element,
             &t.criterion,
+            t.ticks,
+            timers,
         );
         n = counted(n, i, ok);
         x = next_of(x);

@@ -1,10 +1,10 @@
--- A refused call hands the table back. An accepted one is a change of one task, of one region's entry, or of one queue's places;
--- what the code builds in each case is the step, by the laws of proofs/Done.antt.
+-- A refused call hands the table back. An accepted one is a change of one task and perhaps its timers, of one region's entry, of one
+-- queue's places, of one timer, or a tick; what the code builds in each case is the step, by the laws of proofs/Done.antt and Timed.antt.
 use borrow.Author.Needs.{needs}
 use native.Mathlib.Omega.{arith}
 use mathlib.Core.Path.{_≡_, refl, sym, _∙_}
 use Prim.Native.Nat.{_<_, _≤_}
-use lib.ListN.{length, length-set}
+use lib.ListN.{length-set}
 use Rattle.rules.specs.declared.Table.{Table}
 use Rattle.rules.specs.declared.Call.{Call}
 use Rattle.rules.specs.Numbers.{SEND, RETRIEVE}
@@ -12,8 +12,9 @@ use Rattle.rules.specs.Refusals.{refusal}
 use Rattle.rules.proofs.Refusals.{Accepted, accepted-facts}
 use Rattle.refusals.specs.Lent.{Lengths}
 use Rattle.calls.specs.Effects.{target}
-use Rattle.calls.proofs.Accepted.{target-below, tasks-fit, region-there, regions-fit, caller-below}
-use Rattle.calls.proofs.Done.{Fits, refused-done, task-done, task-kept, region-done, free, send-done, found, retrieve-done, retrieve-is, retrieve-some, queue-fits}
+use Rattle.calls.proofs.Accepted.{target-below, tasks-fit, region-there, regions-fit, caller-below, timer-there}
+use Rattle.calls.proofs.Done.{Fits, refused-done, stop-done, task-done, task-kept, region-done, free, send-done, found, retrieve-done, retrieve-is, retrieve-some, queue-fits}
+use Rattle.calls.proofs.Timed.{timer-done, tick-done}
 use Rattle.calls.proofs.call.Statement.{statement}
 use Rattle.calls.proofs.call.Tie as tie
 
@@ -21,10 +22,10 @@ long : (c : tie.Start) → Lengths (c .args .t1 .priority) (c .args .t1 .state) 
 long c = search needs
 
 abbrev table : tie.Then1 → Table
-table c = c .before .before .before .before .before .before .before .before .before .before .before .before .before .before .args .t1
+table c = c .before .before .before .before .before .before .before .before .before .before .before .before .before .before .before .args .t1
 
 abbrev call : tie.Then1 → Call
-call c = c .before .before .before .before .before .before .before .before .before .before .before .before .before .before .args .k
+call c = c .before .before .before .before .before .before .before .before .before .before .before .before .before .before .before .args .k
 
 -- nothing is refused from here on
 zero : (c : tie.Then1) → refusal (table c) (call c) ≡ 0
@@ -43,17 +44,17 @@ task-there c h = omega (arith, target-below (table c) (call c) (facts c) h, task
 region-small : (c : tie.Then1) → 6 ≤ call c .operation → call c .operation < 8 → call c .a < 16
 region-small c l h = omega (arith, region-there (table c) (call c) (facts c) l h, regions-fit (table c) (call c) (facts c))
 
-caller-small : (c : tie.Then1) → 6 ≤ call c .operation → call c .caller < 255
-caller-small c l = omega (arith, caller-below (table c) (call c) (facts c) (omega arith), tasks-fit (table c) (call c) (facts c))
+caller-small : (c : tie.Then1) → 6 ≤ call c .operation → call c .operation < 8 → call c .caller < 255
+caller-small c l h = omega (arith, caller-below (table c) (call c) (facts c) (omega arith) (omega arith), tasks-fit (table c) (call c) (facts c))
 
-queue-there : (c : tie.Then1) → 8 ≤ call c .operation → Fits (table c) (call c)
-queue-there c l = queue-fits (table c) (call c) (zero c) l
+queue-there : (c : tie.Then1) → 8 ≤ call c .operation → call c .operation < 10 → Fits (table c) (call c)
+queue-there c l h = queue-fits (table c) (call c) (zero c) l h
 
-is-retrieve : (c : tie.Then1) → 8 ≤ call c .operation → (call c .operation ≡ SEND → ⊥) → call c .operation ≡ RETRIEVE
-is-retrieve c l n = retrieve-is (table c) (call c) (zero c) l n
+is-retrieve : (c : tie.Then1) → 8 ≤ call c .operation → call c .operation < 10 → (call c .operation ≡ SEND → ⊥) → call c .operation ≡ RETRIEVE
+is-retrieve c l h n = retrieve-is (call c) l h n
 
 refusal-of-requires : tie.Need-refusal-of-requires
-refusal-of-requires c κs = let l = long (c .before .before .before .before .before .before .before .before .before .before .before) in omega arith
+refusal-of-requires c κs = let l = long (c .before .before .before .before .before .before .before .before .before .before .before .before) in omega arith
 
 reported-by-requires : tie.Need-reported-by-requires
 reported-by-requires c κs = search needs
@@ -64,14 +65,14 @@ target-of-requires c κs = search needs
 cast-i : tie.Need-cast-i
 cast-i c = search needs
 
-element-copy-out-t41 : tie.Need-element-copy-out-t41
-element-copy-out-t41 c = omega (arith, c .target-of .ensures, task-there (c .before .before) (c .before .if2 .taken))
+element-copy-out-t55 : tie.Need-element-copy-out-t55
+element-copy-out-t55 c = omega (arith, c .target-of .ensures, task-there (c .before .before) (c .before .if2 .taken))
 
-mul-t42 : tie.Need-mul-t42
-mul-t42 c = search needs
+mul-t56 : tie.Need-mul-t56
+mul-t56 c = search needs
 
-element-copy-out-t45 : tie.Need-element-copy-out-t45
-element-copy-out-t45 c = omega (arith, c .before .target-of .ensures, task-there (c .before .before .before) (c .before .before .if2 .taken))
+element-copy-out-t59 : tie.Need-element-copy-out-t59
+element-copy-out-t59 c = omega (arith, c .before .target-of .ensures, task-there (c .before .before .before) (c .before .before .if2 .taken))
 
 mul-met-by : tie.Need-mul-met-by
 mul-met-by c = search needs
@@ -116,100 +117,145 @@ element-write-t-4 : tie.Need-element-write-t-4
 element-write-t-4 c = omega (arith, c .before .before .before .before .before .before .before .before .before .target-of .ensures, task-there (c .before .before .before .before .before .before .before .before .before .before .before) (c .before .before .before .before .before .before .before .before .before .before .if2 .taken))
 
 held-by-requires : tie.Need-held-by-requires
-held-by-requires c κs = long (c .before .before .before .before .before .before .before .before .before .before .before .before .before .before .before .before .before .before .before .before .before .before .before .before .before .before .before .before .before .before) .holder-long
+held-by-requires c κs = long (c .before .before .before .before .before .before .before .before .before .before .before .before .before .before .before .before .before .before .before .before .before .before .before .before .before .before .before .before .before .before .before) .holder-long
 
 elected-by-requires : tie.Need-elected-by-requires
-elected-by-requires c κs = (rw length-set (long (c .before .before .before .before .before .before .before .before .before .before .before .before .before .before .before .before .before .before .before .before .before .before .before .before .before .before .before .before .before .before .before .before .before .before) .state-long), long (c .before .before .before .before .before .before .before .before .before .before .before .before .before .before .before .before .before .before .before .before .before .before .before .before .before .before .before .before .before .before .before .before .before .before) .priority-long)
+elected-by-requires c κs = (rw length-set (long (c .before .before .before .before .before .before .before .before .before .before .before .before .before .before .before .before .before .before .before .before .before .before .before .before .before .before .before .before .before .before .before .before .before .before .before) .state-long), long (c .before .before .before .before .before .before .before .before .before .before .before .before .before .before .before .before .before .before .before .before .before .before .before .before .before .before .before .before .before .before .before .before .before .before .before) .priority-long)
+
+cast-disarmed-all : tie.Need-cast-disarmed-all
+cast-disarmed-all c = omega (arith, c .before .before .before .before .before .before .before .before .before .before .before .before .before .before .before .before .before .before .before .before .target-of .ensures, task-there (c .before .before .before .before .before .before .before .before .before .before .before .before .before .before .before .before .before .before .before .before .before .before) (c .before .before .before .before .before .before .before .before .before .before .before .before .before .before .before .before .before .before .before .before .before .if2 .taken))
+
+disarmed-all-requires : tie.Need-disarmed-all-requires
+disarmed-all-requires c κs = search needs
 
 cast-at : tie.Need-cast-at
 cast-at c = search needs
 
 element-copy-out-holder-after : tie.Need-element-copy-out-holder-after
-element-copy-out-holder-after c = region-small (c .before .before .before) (c .before .before .if2 .left) (c .if4 .taken)
+element-copy-out-holder-after c = region-small (c .before .before .before) (c .before .before .if2 .left) (c .if5 .taken)
 
 holder-after-requires : tie.Need-holder-after-requires
-holder-after-requires c κs = caller-small (c .before .before .before .before) (c .before .before .before .if2 .left)
+holder-after-requires c κs = caller-small (c .before .before .before .before) (c .before .before .before .if2 .left) (c .before .if5 .taken)
 
 element-write-t-5 : tie.Need-element-write-t-5
-element-write-t-5 c = region-small (c .before .before .before .before .before) (c .before .before .before .before .if2 .left) (c .before .before .if4 .taken)
+element-write-t-5 c = region-small (c .before .before .before .before .before) (c .before .before .before .before .if2 .left) (c .before .before .if5 .taken)
 
 held-by-requires-2 : tie.Need-held-by-requires-2
-held-by-requires-2 c κs = rw length-set (long (c .before .before .before .before .before .before .before .before .before .before .before .before .before .before .before .before .before .before .before .before .before) .holder-long)
+held-by-requires-2 c κs = rw length-set (long (c .before .before .before .before .before .before .before .before .before .before .before .before .before .before .before .before .before .before .before .before .before .before) .holder-long)
 
 elected-by-requires-2 : tie.Need-elected-by-requires-2
-elected-by-requires-2 c κs = (long (c .before .before .before .before .before .before .before .before .before .before .before .before .before .before .before .before .before .before .before .before .before .before .before .before .before) .state-long, long (c .before .before .before .before .before .before .before .before .before .before .before .before .before .before .before .before .before .before .before .before .before .before .before .before .before) .priority-long)
+elected-by-requires-2 c κs = (long (c .before .before .before .before .before .before .before .before .before .before .before .before .before .before .before .before .before .before .before .before .before .before .before .before .before .before) .state-long, long (c .before .before .before .before .before .before .before .before .before .before .before .before .before .before .before .before .before .before .before .before .before .before .before .before .before .before) .priority-long)
 
 element-copy-out-n : tie.Need-element-copy-out-n
-element-copy-out-n c = queue-there (c .before .before .before) (c .if4 .left) .queue-small
+element-copy-out-n c = queue-there (c .before .before .before .before) (c .before .if5 .left) (c .if6 .taken) .queue-small
 
 mul-from : tie.Need-mul-from
 mul-from c = search needs
 
 cast-end : tie.Need-cast-end
-cast-end c = let f = queue-there (c .before .before .before .before) (c .before .if4 .left) in omega arith
+cast-end c = let f = queue-there (c .before .before .before .before .before) (c .before .before .if5 .left) (c .before .if6 .taken) in omega arith
 
 add-end : tie.Need-add-end
-add-end c = let f = queue-there (c .before .before .before .before) (c .before .if4 .left) in omega arith
+add-end c = let f = queue-there (c .before .before .before .before .before) (c .before .before .if5 .left) (c .before .if6 .taken) in omega arith
 
 mul-t-3 : tie.Need-mul-t-3
-mul-t-3 c = let f = queue-there (c .before .before .before .before .before) (c .before .before .if4 .left) in omega arith
+mul-t-3 c = let f = queue-there (c .before .before .before .before .before .before) (c .before .before .before .if5 .left) (c .before .before .if6 .taken) in omega arith
 
 element-write-t-6 : tie.Need-element-write-t-6
-element-write-t-6 c = let f = queue-there (c .before .before .before .before .before) (c .before .before .if4 .left) in omega (arith, free _ _ (zero (c .before .before .before .before .before)) (c .if5 .taken))
+element-write-t-6 c = let f = queue-there (c .before .before .before .before .before .before) (c .before .before .before .if5 .left) (c .before .before .if6 .taken) in omega (arith, free _ _ (zero (c .before .before .before .before .before .before)) (c .if7 .taken))
 
 cast-t : tie.Need-cast-t
 cast-t c = search needs
 
 element-write-t-7 : tie.Need-element-write-t-7
-element-write-t-7 c = let f = queue-there (c .before .before .before .before .before .before) (c .before .before .before .if4 .left) in omega (arith, free _ _ (zero (c .before .before .before .before .before .before)) (c .before .if5 .taken))
+element-write-t-7 c = let f = queue-there (c .before .before .before .before .before .before .before) (c .before .before .before .before .if5 .left) (c .before .before .before .if6 .taken) in omega (arith, free _ _ (zero (c .before .before .before .before .before .before .before)) (c .before .if7 .taken))
 
 add-t : tie.Need-add-t
-add-t c = let f = queue-there (c .before .before .before .before .before .before) (c .before .before .before .if4 .left) in omega arith
+add-t c = let f = queue-there (c .before .before .before .before .before .before .before) (c .before .before .before .before .if5 .left) (c .before .before .before .if6 .taken) in omega arith
 
 element-write-t-8 : tie.Need-element-write-t-8
-element-write-t-8 c = queue-there (c .before .before .before .before .before .before) (c .before .before .before .if4 .left) .queue-small
+element-write-t-8 c = queue-there (c .before .before .before .before .before .before .before) (c .before .before .before .before .if5 .left) (c .before .before .before .if6 .taken) .queue-small
 
 place-of-requires : tie.Need-place-of-requires
-place-of-requires c κs = long (c .before .before .before .before .before .before .before .before .before .before .before .before .before .before .before .before .before .before .before .before .before) .criterion-long
+place-of-requires c κs = long (c .before .before .before .before .before .before .before .before .before .before .before .before .before .before .before .before .before .before .before .before .before .before .before) .criterion-long
 
 mul-value : tie.Need-mul-value
-mul-value c = let f = queue-there (c .before .before .before .before .before .before .before .before) (c .before .before .before .before .before .if4 .left) in omega (arith, found _ _ (zero (c .before .before .before .before .before .before .before .before)) (is-retrieve (c .before .before .before .before .before .before .before .before) (c .before .before .before .before .before .if4 .left) (c .before .before .before .if5 .left)) _ (c .place-of .ensures))
+mul-value c = let f = queue-there (c .before .before .before .before .before .before .before .before .before) (c .before .before .before .before .before .before .if5 .left) (c .before .before .before .before .before .if6 .taken) in omega (arith, found _ _ (zero (c .before .before .before .before .before .before .before .before .before)) (is-retrieve (c .before .before .before .before .before .before .before .before .before) (c .before .before .before .before .before .before .if5 .left) (c .before .before .before .before .before .if6 .taken) (c .before .before .before .if7 .left)) _ (c .place-of .ensures))
 
 element-copy-out-value : tie.Need-element-copy-out-value
-element-copy-out-value c = let f = queue-there (c .before .before .before .before .before .before .before .before) (c .before .before .before .before .before .if4 .left) in omega (arith, found _ _ (zero (c .before .before .before .before .before .before .before .before)) (is-retrieve (c .before .before .before .before .before .before .before .before) (c .before .before .before .before .before .if4 .left) (c .before .before .before .if5 .left)) _ (c .place-of .ensures))
+element-copy-out-value c = let f = queue-there (c .before .before .before .before .before .before .before .before .before) (c .before .before .before .before .before .before .if5 .left) (c .before .before .before .before .before .if6 .taken) in omega (arith, found _ _ (zero (c .before .before .before .before .before .before .before .before .before)) (is-retrieve (c .before .before .before .before .before .before .before .before .before) (c .before .before .before .before .before .before .if5 .left) (c .before .before .before .before .before .if6 .taken) (c .before .before .before .if7 .left)) _ (c .place-of .ensures))
 
 element-copy-out-key : tie.Need-element-copy-out-key
-element-copy-out-key c = let f = queue-there (c .before .before .before .before .before .before .before .before .before) (c .before .before .before .before .before .before .if4 .left) in omega (arith, found _ _ (zero (c .before .before .before .before .before .before .before .before .before)) (is-retrieve (c .before .before .before .before .before .before .before .before .before) (c .before .before .before .before .before .before .if4 .left) (c .before .before .before .before .if5 .left)) _ (c .before .place-of .ensures))
+element-copy-out-key c = let f = queue-there (c .before .before .before .before .before .before .before .before .before .before) (c .before .before .before .before .before .before .before .if5 .left) (c .before .before .before .before .before .before .if6 .taken) in omega (arith, found _ _ (zero (c .before .before .before .before .before .before .before .before .before .before)) (is-retrieve (c .before .before .before .before .before .before .before .before .before .before) (c .before .before .before .before .before .before .before .if5 .left) (c .before .before .before .before .before .before .if6 .taken) (c .before .before .before .before .if7 .left)) _ (c .before .place-of .ensures))
 
 close-elements-requires : tie.Need-close-elements-requires
-close-elements-requires c κs = long (c .before .before .before .before .before .before .before .before .before .before .before .before .before .before .before .before .before .before .before .before .before .before .before .before .before) .element-long
+close-elements-requires c κs = long (c .before .before .before .before .before .before .before .before .before .before .before .before .before .before .before .before .before .before .before .before .before .before .before .before .before .before .before) .element-long
 
 close-criteria-requires : tie.Need-close-criteria-requires
-close-criteria-requires c κs = long (c .before .before .before .before .before .before .before .before .before .before .before .before .before .before .before .before .before .before .before .before .before .before .before .before .before .before .before) .criterion-long
+close-criteria-requires c κs = long (c .before .before .before .before .before .before .before .before .before .before .before .before .before .before .before .before .before .before .before .before .before .before .before .before .before .before .before .before .before) .criterion-long
 
 sub-t : tie.Need-sub-t
-sub-t c = retrieve-some _ _ (zero (c .before .before .before .before .before .before .before .before .before .before .before .before .before .before)) (is-retrieve (c .before .before .before .before .before .before .before .before .before .before .before .before .before .before) (c .before .before .before .before .before .before .before .before .before .before .before .if4 .left) (c .before .before .before .before .before .before .before .before .before .if5 .left))
+sub-t c = retrieve-some _ _ (zero (c .before .before .before .before .before .before .before .before .before .before .before .before .before .before .before)) (is-retrieve (c .before .before .before .before .before .before .before .before .before .before .before .before .before .before .before) (c .before .before .before .before .before .before .before .before .before .before .before .before .if5 .left) (c .before .before .before .before .before .before .before .before .before .before .before .if6 .taken) (c .before .before .before .before .before .before .before .before .before .if7 .left))
 
 element-write-t-9 : tie.Need-element-write-t-9
-element-write-t-9 c = queue-there (c .before .before .before .before .before .before .before .before .before .before .before .before .before .before) (c .before .before .before .before .before .before .before .before .before .before .before .if4 .left) .queue-small
+element-write-t-9 c = queue-there (c .before .before .before .before .before .before .before .before .before .before .before .before .before .before .before) (c .before .before .before .before .before .before .before .before .before .before .before .before .if5 .left) (c .before .before .before .before .before .before .before .before .before .before .before .if6 .taken) .queue-small
+
+mul-timer-after : tie.Need-mul-timer-after
+mul-timer-after c = let f = timer-there (table (c .before .before .before .before .before)) (call (c .before .before .before .before .before)) (facts (c .before .before .before .before .before)) (c .before .if6 .left) (c .if8 .taken) in omega arith
+
+element-copy-out-timer-after : tie.Need-element-copy-out-timer-after
+element-copy-out-timer-after c = let f = timer-there (table (c .before .before .before .before .before)) (call (c .before .before .before .before .before)) (facts (c .before .before .before .before .before)) (c .before .if6 .left) (c .if8 .taken) in omega arith
+
+timer-after-requires : tie.Need-timer-after-requires
+timer-after-requires c κs = search needs
+
+mul-t132 : tie.Need-mul-t132
+mul-t132 c = let f = timer-there (table (c .before .before .before .before .before .before .before)) (call (c .before .before .before .before .before .before .before)) (facts (c .before .before .before .before .before .before .before)) (c .before .before .before .if6 .left) (c .before .before .if8 .taken) in omega arith
+
+element-set-from-t : tie.Need-element-set-from-t
+element-set-from-t c = let f = timer-there (table (c .before .before .before .before .before .before .before)) (call (c .before .before .before .before .before .before .before)) (facts (c .before .before .before .before .before .before .before)) (c .before .before .before .if6 .left) (c .before .before .if8 .taken) in omega arith
+
+later-by-requires : tie.Need-later-by-requires
+later-by-requires c κs = search needs
+
+rung-rows-requires : tie.Need-rung-rows-requires
+rung-rows-requires c κs = search needs
+
+rung-all-requires : tie.Need-rung-all-requires
+rung-all-requires c κs = search needs
+
+held-by-requires-3 : tie.Need-held-by-requires-3
+held-by-requires-3 c κs = long (c .before .before .before .before .before .before .before .before .before .before .before .before .before .before .before .before .before .before .before .before .before .before .before .before .before .before .before .before .before .before .before .before .before) .holder-long
+
+elected-by-requires-3 : tie.Need-elected-by-requires-3
+elected-by-requires-3 c κs = (search needs, long (c .before .before .before .before .before .before .before .before .before .before .before .before .before .before .before .before .before .before .before .before .before .before .before .before .before .before .before .before .before .before .before .before .before .before .before .before .before) .priority-long)
 
 returns : tie.Need-returns
-returns c = task-done _ _ (zero (c .before .before .before .before .before .before .before .before .before .before .before .before .before .before .before .before .before .before .before .before .before)) (c .before .before .before .before .before .before .before .before .before .before .before .before .before .before .before .before .before .before .before .before .if2 .taken) _ (c .before .before .before .before .before .before .before .before .before .before .before .before .before .before .before .before .before .before .before .target-of .ensures) _ _ _ _ _ (c .before .before .before .before .before .before .before .before .before .before .before .task-after .ensures) (c .before .before .before .before .before .before .before .before .before .before .before .before .met-by .ensures) (c .before .before .before .before .held-by .ensures) (c .elected-by .ensures) (c .before .before .before .before .before .before .before .before .before .before .pick .ensures)
+returns c = stop-done _ _ (zero (c .before .before .before .before .before .before .before .before .before .before .before .before .before .before .before .before .before .before .before .before .before .before .before)) (c .before .before .before .before .before .before .before .before .before .before .before .before .before .before .before .before .before .before .before .before .before .before .if2 .taken) _ (c .before .before .before .before .before .before .before .before .before .before .before .before .before .before .before .before .before .before .before .before .before .target-of .ensures) _ _ _ _ _ (c .before .before .before .before .before .before .before .before .before .before .before .before .before .task-after .ensures) (c .before .before .before .before .before .before .before .before .before .before .before .before .before .before .met-by .ensures) (c .before .before .before .before .before .before .held-by .ensures) (c .before .before .elected-by .ensures) (c .before .before .before .before .before .before .before .before .before .before .before .before .pick .ensures) (c .before .if4 .taken) _ (c .disarmed-all .ensures)
 
 returns-2 : tie.Need-returns-2
-returns-2 c = task-kept _ _ (zero (c .before .before .before .before .before .before .before .before .before .before .before .before .before .before)) (c .before .before .before .before .before .before .before .before .before .before .before .before .before .if2 .taken) _ (c .before .before .before .before .before .before .before .before .before .before .before .before .target-of .ensures) _ _ _ _ (c .before .before .before .before .task-after .ensures) (c .before .before .before .before .before .met-by .ensures) (c .if3 .left) (own (c .before .before .before .before .before .before .before .before .before .before .before .before .before .before)) (c .before .before .before .pick .ensures)
+returns-2 c = task-done _ _ (zero (c .before .before .before .before .before .before .before .before .before .before .before .before .before .before .before .before .before .before .before .before .before .before)) (c .before .before .before .before .before .before .before .before .before .before .before .before .before .before .before .before .before .before .before .before .before .if2 .taken) _ (c .before .before .before .before .before .before .before .before .before .before .before .before .before .before .before .before .before .before .before .before .target-of .ensures) _ _ _ _ _ (c .before .before .before .before .before .before .before .before .before .before .before .before .task-after .ensures) (c .before .before .before .before .before .before .before .before .before .before .before .before .before .met-by .ensures) (c .before .before .before .before .before .held-by .ensures) (c .before .elected-by .ensures) (c .before .before .before .before .before .before .before .before .before .before .before .pick .ensures) (c .if4 .left)
 
 returns-3 : tie.Need-returns-3
-returns-3 c = region-done _ _ (zero (c .before .before .before .before .before .before .before .before .before .before .before .before)) (c .before .before .before .before .before .before .before .before .before .before .before .if2 .left) (c .before .before .before .before .before .before .before .before .before .if4 .taken) _ _ _ _ (c .before .before .before .before .before .before .before .holder-after .ensures) (c .before .before .before .before .held-by2 .ensures) (c .elected-by2 .ensures) (c .before .before .before .before .before .before .before .before .before .before .before .before .if1 .taken)
+returns-3 c = task-kept _ _ (zero (c .before .before .before .before .before .before .before .before .before .before .before .before .before .before)) (c .before .before .before .before .before .before .before .before .before .before .before .before .before .if2 .taken) _ (c .before .before .before .before .before .before .before .before .before .before .before .before .target-of .ensures) _ _ _ _ (c .before .before .before .before .task-after .ensures) (c .before .before .before .before .before .met-by .ensures) (c .if3 .left) (own (c .before .before .before .before .before .before .before .before .before .before .before .before .before .before)) (c .before .before .before .pick .ensures)
 
 returns-4 : tie.Need-returns-4
-returns-4 c = send-done _ _ (zero (c .before .before .before .before .before .before)) (c .before .if5 .taken) _ _ (c .before .before .before .before .before .before .if1 .taken) (own (c .before .before .before .before .before .before))
+returns-4 c = region-done _ _ (zero (c .before .before .before .before .before .before .before .before .before .before .before .before)) (c .before .before .before .before .before .before .before .before .before .before .before .if2 .left) (c .before .before .before .before .before .before .before .before .before .if5 .taken) _ _ _ _ (c .before .before .before .before .before .before .before .holder-after .ensures) (c .before .before .before .before .held-by2 .ensures) (c .elected-by2 .ensures) (c .before .before .before .before .before .before .before .before .before .before .before .before .if1 .taken)
 
 returns-5 : tie.Need-returns-5
-returns-5 c = retrieve-done _ _ (zero (c .before .before .before .before .before .before .before .before .before .before .before .before .before .before)) (is-retrieve (c .before .before .before .before .before .before .before .before .before .before .before .before .before .before) (c .before .before .before .before .before .before .before .before .before .before .before .if4 .left) (c .before .before .before .before .before .before .before .before .before .if5 .left)) _ (c .before .before .before .before .before .before .place-of .ensures) _ _ _ _ _ _ refl refl (c .before .before .close-elements .ensures) (c .close-criteria .ensures) (c .before .before .before .before .before .before .before .before .before .before .before .before .before .before .if1 .taken) (own (c .before .before .before .before .before .before .before .before .before .before .before .before .before .before))
+returns-5 c = send-done _ _ (zero (c .before .before .before .before .before .before .before)) (c .before .if7 .taken) _ _ (c .before .before .before .before .before .before .before .if1 .taken) (own (c .before .before .before .before .before .before .before))
 
 returns-6 : tie.Need-returns-6
-returns-6 c = refused-done _ _ _ _ (c .before .before .refusal-of .ensures) (c .if1 .left) (c .before .reported-by .ensures)
+returns-6 c = retrieve-done _ _ (zero (c .before .before .before .before .before .before .before .before .before .before .before .before .before .before .before)) (is-retrieve (c .before .before .before .before .before .before .before .before .before .before .before .before .before .before .before) (c .before .before .before .before .before .before .before .before .before .before .before .before .if5 .left) (c .before .before .before .before .before .before .before .before .before .before .before .if6 .taken) (c .before .before .before .before .before .before .before .before .before .if7 .left)) _ (c .before .before .before .before .before .before .place-of .ensures) _ _ _ _ _ _ refl refl (c .before .before .close-elements .ensures) (c .close-criteria .ensures) (c .before .before .before .before .before .before .before .before .before .before .before .before .before .before .before .if1 .taken) (own (c .before .before .before .before .before .before .before .before .before .before .before .before .before .before .before))
+
+returns-7 : tie.Need-returns-7
+returns-7 c = timer-done _ _ (zero (c .before .before .before .before .before .before .before)) (c .before .before .before .if6 .left) (c .before .before .if8 .taken) _ _ _ (c .timer-after .ensures) (c .before .before .before .before .before .before .before .if1 .taken) (own (c .before .before .before .before .before .before .before))
+
+returns-8 : tie.Need-returns-8
+returns-8 c = tick-done _ _ (zero (c .before .before .before .before .before .before .before .before .before .before .before .before .before .before .before .before .before .before .before .before .before .before .before)) (c .before .before .before .before .before .before .before .before .before .before .before .before .before .before .before .before .before .before .if8 .left) _ _ _ _ _ _ (c .before .before .before .before .before .before .before .before .before .before .before .before .before .before .before .before .before .later-by .ensures) (c .before .before .before .before .before .before .before .before .before .before .before .before .rung-rows .ensures) (c .before .before .before .before .before .before .before .rung-all .ensures) (c .before .before .before .before .held-by3 .ensures) (c .elected-by3 .ensures) (c .before .before .before .before .before .before .before .before .before .before .before .before .before .before .before .before .before .before .before .before .before .before .before .if1 .taken)
+
+returns-9 : tie.Need-returns-9
+returns-9 c = refused-done _ _ _ _ (c .before .before .refusal-of .ensures) (c .if1 .left) (c .before .reported-by .ensures)
 
 pub call-spec : {M : Type 1} → statement M
 call-spec =
@@ -219,9 +265,9 @@ call-spec =
     reported-by-requires
     target-of-requires
     cast-i
-    element-copy-out-t41
-    mul-t42
-    element-copy-out-t45
+    element-copy-out-t55
+    mul-t56
+    element-copy-out-t59
     mul-met-by
     element-copy-out-met-by
     element-copy-out-met-by-2
@@ -238,6 +284,8 @@ call-spec =
     element-write-t-4
     held-by-requires
     elected-by-requires
+    cast-disarmed-all
+    disarmed-all-requires
     cast-at
     element-copy-out-holder-after
     holder-after-requires
@@ -262,9 +310,22 @@ call-spec =
     close-criteria-requires
     sub-t
     element-write-t-9
+    mul-timer-after
+    element-copy-out-timer-after
+    timer-after-requires
+    mul-t132
+    element-set-from-t
+    later-by-requires
+    rung-rows-requires
+    rung-all-requires
+    held-by-requires-3
+    elected-by-requires-3
     returns
     returns-2
     returns-3
     returns-4
     returns-5
-    returns-6)
+    returns-6
+    returns-7
+    returns-8
+    returns-9)

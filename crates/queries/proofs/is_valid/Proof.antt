@@ -9,7 +9,7 @@ long : (c : tie.Start) → Lengths (c .args .t1 .priority) (c .args .t1 .state) 
 long c = search needs
 
 valid-of-requires : tie.Need-valid-of-requires
-valid-of-requires c κs = let l = long (c .before .before .before .before .before .before .before .before .before .before .before) in omega arith
+valid-of-requires c κs = let l = long (c .before .before .before .before .before .before .before .before .before .before .before .before) in omega arith
 
 returns : tie.Need-returns
 returns c = c .valid-of .ensures

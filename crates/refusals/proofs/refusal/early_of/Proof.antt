@@ -15,9 +15,19 @@ pick-requires-3 c κs = search needs
 pick-requires-4 : tie.Need-pick-requires-4
 pick-requires-4 c κs = search needs
 
+pick-requires-5 : tie.Need-pick-requires-5
+pick-requires-5 c κs = search needs
+
 returns : tie.Need-returns
-returns c = rw (c .pick4 .ensures, c .before .pick3 .ensures, c .before .before .before .pick2 .ensures, c .before .before .before .before .pick .ensures)
+returns c = rw (c .pick5 .ensures, c .before .pick4 .ensures, c .before .before .before .pick3 .ensures, c .before .before .before .before .pick2 .ensures, c .before .before .before .before .before .pick .ensures)
 
 pub early-of-spec : {M : Type 1} → statement M
 early-of-spec =
-    tie.close (tie.spec pick-requires pick-requires-2 pick-requires-3 pick-requires-4 returns)
+    tie.close
+    (tie.spec
+    pick-requires
+    pick-requires-2
+    pick-requires-3
+    pick-requires-4
+    pick-requires-5
+    returns)

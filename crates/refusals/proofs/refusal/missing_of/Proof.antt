@@ -45,7 +45,19 @@ unfolding missing
 returns-10 c = rw (c .before .match .keys10)
 
 returns-11 : tie.Need-returns-11
-returns-11 c = missing-past _ _ _ _ (none-below 10 _ (c .match .rest))
+unfolding missing
+returns-11 c = rw (c .before .before .before .match .keys11)
+
+returns-12 : tie.Need-returns-12
+unfolding missing
+returns-12 c = rw (c .match .keys12)
+
+returns-13 : tie.Need-returns-13
+unfolding missing
+returns-13 c = rw (c .match .keys13)
+
+returns-14 : tie.Need-returns-14
+returns-14 c = missing-past _ _ _ _ (none-below 13 _ (c .match .rest))
 
 pub missing-of-spec : {M : Type 1} → statement M
 missing-of-spec =
@@ -61,4 +73,7 @@ missing-of-spec =
     returns-8
     returns-9
     returns-10
-    returns-11)
+    returns-11
+    returns-12
+    returns-13
+    returns-14)

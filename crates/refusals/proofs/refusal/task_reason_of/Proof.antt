@@ -10,8 +10,8 @@ inside-of-requires c κs = search needs
 pick-requires : tie.Need-pick-requires
 pick-requires c κs = search needs
 
-wrong-state-of-requires : tie.Need-wrong-state-of-requires
-wrong-state-of-requires c κs = search needs
+wrong-task-of-requires : tie.Need-wrong-task-of-requires
+wrong-task-of-requires c κs = search needs
 
 pick-requires-2 : tie.Need-pick-requires-2
 pick-requires-2 c κs = search needs
@@ -21,7 +21,7 @@ pick-requires-3 c κs = search needs
 
 returns : tie.Need-returns
 unfolding taskFlags
-returns c = rw (c .pick3 .ensures, c .before .before .before .pick2 .ensures, c .before .before .before .before .before .pick .ensures, c .before .before .before .before .wrong-state-of .ensures, c .before .before .before .before .before .before .inside-of .ensures)
+returns c = rw (c .pick3 .ensures, c .before .before .before .pick2 .ensures, c .before .before .before .before .before .pick .ensures, c .before .before .before .before .wrong-task-of .ensures, c .before .before .before .before .before .before .inside-of .ensures)
 
 pub task-reason-of-spec : {M : Type 1} → statement M
 task-reason-of-spec =
@@ -29,7 +29,7 @@ task-reason-of-spec =
     (tie.spec
     inside-of-requires
     pick-requires
-    wrong-state-of-requires
+    wrong-task-of-requires
     pick-requires-2
     pick-requires-3
     returns)

@@ -1,5 +1,7 @@
 -- Each part is its definition, and together they are validity of a table of this shape.
 use borrow.Author.Needs.{needs}
+use mathlib.Core.Path.{_≡_}
+use lib.ListN.{length}
 use Rattle.refusals.specs.Lent.{Lengths}
 use Rattle.refusals.proofs.Checked.{shaped-lent, check-is}
 use Rattle.refusals.proofs.validity.valid_of.Statement.{statement}
@@ -7,6 +9,9 @@ use Rattle.refusals.proofs.validity.valid_of.Tie as tie
 
 long : (c : tie.Start) → Lengths (c .args .priority .now) (c .args .state .now) (c .args .arrived .now) (c .args .list .now) (c .args .operator .now) (c .args .holder .now) (c .args .bound .now) (c .args .lengths .now) (c .args .element .now) (c .args .criterion .now)
 long c = search needs
+
+timers-long : (c : tie.Start) → length (c .args .timers) ≡ 16
+timers-long c = search needs
 
 counts-right-requires : tie.Need-counts-right-requires
 counts-right-requires c κs = search needs
@@ -32,8 +37,11 @@ criteria-right-requires c κs = search needs
 elected-by-requires : tie.Need-elected-by-requires
 elected-by-requires c κs = search needs
 
+timers-right-requires : tie.Need-timers-right-requires
+timers-right-requires c κs = search needs
+
 returns : tie.Need-returns
-returns c = check-is _ (shaped-lent _ _ _ _ _ _ _ _ _ _ _ _ _ _ (long (c .before .before .before .before .before .before .before .before))) _ _ (c .before .before .before .before .before .held-by .ensures) (c .elected-by .ensures) _ _ _ _ _ _ (c .before .before .before .before .before .before .before .counts-right .ensures) (c .before .before .before .before .before .before .tasks-right .ensures) (c .before .before .before .before .regions-right .ensures) (c .before .before .before .holder-right .ensures) (c .before .before .queues-right .ensures) (c .before .criteria-right .ensures)
+returns c = check-is _ (shaped-lent _ _ _ _ _ _ _ _ _ _ _ _ _ _ _ _ (long (c .before .before .before .before .before .before .before .before .before)) (timers-long (c .before .before .before .before .before .before .before .before .before))) _ _ (c .before .before .before .before .before .before .held-by .ensures) (c .before .elected-by .ensures) _ _ _ _ _ _ _ (c .before .before .before .before .before .before .before .before .counts-right .ensures) (c .before .before .before .before .before .before .before .tasks-right .ensures) (c .before .before .before .before .before .regions-right .ensures) (c .before .before .before .before .holder-right .ensures) (c .before .before .before .queues-right .ensures) (c .before .before .criteria-right .ensures) (c .timers-right .ensures)
 
 pub valid-of-spec : {M : Type 1} → statement M
 valid-of-spec =
@@ -47,4 +55,5 @@ valid-of-spec =
     queues-right-requires
     criteria-right-requires
     elected-by-requires
+    timers-right-requires
     returns)

@@ -8,11 +8,6 @@ use Rattle.workload.specs.Checks.{standing, checked}
 use Rattle.workload.proofs.Checking.{Shaped, shape-kept, check-again, check-end}
 use Rattle.workload.proofs.checks.checks_of.Statement.{statement}
 use Rattle.workload.proofs.checks.checks_of.Tie as tie
-use Rattle.workload.proofs.checks.checks_of.Reads as reads
-use Rattle.workload.proofs.checks.checks_of.Lts as lts
-use Rattle.refusals.proofs.valid_of.Reads as valid-of-reads
-use Rattle.workload.proofs.draw.next_of.Reads as next-of-reads
-use Rattle.workload.proofs.tally.counted.Reads as counted-reads
 
 abbrev Inv-loop : tie.InvT-loop
 Inv-loop x₀ checks t₀ n₀ i₀ x t n i = (i ≤ checks) × ((n ≤ i) × (Shaped t × (standing t x n ≡ checked t₀ x₀ i)))
@@ -31,7 +26,7 @@ element-write-t : tie.Need-element-write-t Inv-loop μ-loop
 element-write-t c = search needs
 
 valid-of-requires : tie.Need-valid-of-requires Inv-loop μ-loop
-valid-of-requires c κs = let s = c .before .before .before .before .before .before .before .before .before .before .before .before .loop .inv .1 .1 .0 in simp length-set (omega arith)
+valid-of-requires c κs = let s = c .before .before .before .before .before .before .before .before .before .before .before .before .before .loop .inv .1 .1 .0 in simp length-set (omega arith)
 
 counted-requires : tie.Need-counted-requires Inv-loop μ-loop
 counted-requires c κs = search needs
@@ -46,7 +41,7 @@ loop-less : tie.Need-loop-less Inv-loop μ-loop
 loop-less c = search needs
 
 loop-again : tie.Need-loop-again Inv-loop μ-loop
-loop-again c = (search needs, (c .before .counted .ensures .1, (shape-kept (c .before .before .before .before .before .before .before .before .before .before .before .before .before .before .before .loop .t) (c .before .before .before .before .before .before .before .before .before .before .before .before .before .before .before .loop .x) (c .before .before .before .before .before .before .before .before .before .before .before .before .before .before .before .loop .inv .1 .1 .0), check-again _ _ _ _ _ _ _ _ _ (c .before .before .before .before .before .before .before .before .before .before .before .before .before .before .before .loop .inv .1 .1 .1) (c .before .before .valid-of .ensures) (c .before .counted .ensures .0) (c .next-of .ensures))))
+loop-again c = (search needs, (c .before .counted .ensures .1, (shape-kept (c .before .before .before .before .before .before .before .before .before .before .before .before .before .before .before .before .loop .t) (c .before .before .before .before .before .before .before .before .before .before .before .before .before .before .before .before .loop .x) (c .before .before .before .before .before .before .before .before .before .before .before .before .before .before .before .before .loop .inv .1 .1 .0), check-again _ _ _ _ _ _ _ _ _ (c .before .before .before .before .before .before .before .before .before .before .before .before .before .before .before .before .loop .inv .1 .1 .1) (c .before .before .valid-of .ensures) (c .before .counted .ensures .0) (c .next-of .ensures))))
 
 returns : tie.Need-returns Inv-loop μ-loop
 returns c = check-end _ _ _ _ _ _ _ (c .before .loop .inv .1 .1 .1) (search needs) (search needs)

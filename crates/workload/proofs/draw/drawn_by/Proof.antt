@@ -3,9 +3,6 @@ use borrow.Author.Needs.{needs}
 use Rattle.workload.specs.Draw.{drawn}
 use Rattle.workload.proofs.draw.drawn_by.Statement.{statement}
 use Rattle.workload.proofs.draw.drawn_by.Tie as tie
-use Rattle.workload.proofs.draw.drawn_by.Reads as reads
-use Rattle.workload.proofs.draw.drawn_by.Lts as lts
-use Rattle.refusals.proofs.pick.Reads as pick-reads
 
 pick-requires : tie.Need-pick-requires
 pick-requires c κs = search needs
@@ -31,9 +28,15 @@ pick-requires-7 c κs = search needs
 pick-requires-8 : tie.Need-pick-requires-8
 pick-requires-8 c κs = search needs
 
+pick-requires-9 : tie.Need-pick-requires-9
+pick-requires-9 c κs = search needs
+
+pick-requires-10 : tie.Need-pick-requires-10
+pick-requires-10 c κs = search needs
+
 returns : tie.Need-returns
 unfolding drawn
-returns c = rw (c .pick8 .ensures, c .before .pick7 .ensures, c .before .before .pick6 .ensures, c .before .before .before .pick5 .ensures, c .before .before .before .before .pick4 .ensures, c .before .before .before .before .before .pick3 .ensures, c .before .before .before .before .before .before .pick2 .ensures, c .before .before .before .before .before .before .before .pick .ensures)
+returns c = rw (c .pick10 .ensures, c .before .pick9 .ensures, c .before .before .pick8 .ensures, c .before .before .before .pick7 .ensures, c .before .before .before .before .pick6 .ensures, c .before .before .before .before .before .pick5 .ensures, c .before .before .before .before .before .before .pick4 .ensures, c .before .before .before .before .before .before .before .pick3 .ensures, c .before .before .before .before .before .before .before .before .pick2 .ensures, c .before .before .before .before .before .before .before .before .before .pick .ensures)
 
 pub drawn-by-spec : {M : Type 1} → statement M
 drawn-by-spec =
@@ -47,4 +50,6 @@ drawn-by-spec =
     pick-requires-6
     pick-requires-7
     pick-requires-8
+    pick-requires-9
+    pick-requires-10
     returns)
