@@ -1,5 +1,5 @@
 -- What an accepted call knows: who calls, which task it changes, and that its numbers fit.
-use Prim.Native.Nat.{ℕ, _%_, _<_, _≤_}
+use Prim.Native.Nat.{ℕ, suc, _%_, _<_, _≤_}
 use mathlib.Core.Path.{_≡_, refl, sym, ap, _∙_}
 use mathlib.Core.Logic.{_≢_, _⊎_, inl, inr, ⊎-elim}
 use mathlib.Core.Bool.{Bool, true, false, cond, not, _&&_, _||_, true≢false}
@@ -29,7 +29,7 @@ use Rattle.rules.proofs.Validity.{Parts, parts-of, elected-ready, elected-below
 use Rattle.rules.proofs.Refusals.{Accepted}
 use Rattle.rules.proofs.Lists.{altered-set}
 use Rattle.rules.proofs.Effects.{upto}
-use Rattle.calls.specs.Effects.{target, taskAfter, holderAfter, timerAfter}
+use Rattle.effects.specs.Effects.{target, taskAfter, holderAfter, timerAfter}
 
 -- STOP and END of task i leave these timers
 abbrev pub timersLeft : ℕ → ℕ → List Timer → List Timer
@@ -198,7 +198,7 @@ module _ (t : Table) (c : Call) (a : Accepted t c) where
       (enter-or-exit l h)
 
   pub region-effect : 5 < c .operation → c .operation < 8
-      → effect t c ≡ plain (withHolders (set (t .holder) (c .a) (holderAfter c (getD (t .holder) (c .a) 0))) t)
+      → effect t c ≡ plain (withHolders (set (t .holder) (c .a) (holderAfter c (suc (c .caller)) (getD (t .holder) (c .a) 0))) t)
   unfolding effect holderAfter
   region-effect l h =
       ⊎-elim (λ e. rw e (ap (λ holders. plain (withHolders holders t)) (altered-set (entered (c .caller)) (c .a) 0 (t .holder))))

@@ -5,6 +5,7 @@ use mathlib.Core.Logic.{_≢_}
 use mathlib.Core.Bool.{Bool, true, false, cond, not, _&&_, _||_}
 use mathlib.Core.List.{List, [], _∷_, map}
 use native.Mathlib.Omega.{arith}
+use native.Mathlib.Numerals.{add-one}
 use native.Mathlib.Nat.{mod-eq-of-lt}
 use lib.Dec.{eqb, ltb}
 use lib.ListN.{getD, set, length}
@@ -31,7 +32,7 @@ use Rattle.rules.proofs.Validity.{Parts, parts-of, sound, bound-below}
 use Rattle.rules.proofs.Refusals.{Accepted, accepted-facts}
 use Rattle.queues.specs.Places.{placeIn, closedIn}
 use Rattle.queues.proofs.Places.{place-is, none-is, given-is, taken-is}
-use Rattle.calls.specs.Effects.{target, taskAfter, holderAfter}
+use Rattle.effects.specs.Effects.{target, taskAfter, holderAfter}
 use Rattle.refusals.proofs.Refused.{room, send-there, retrieve-there}
 use Rattle.calls.proofs.Accepted.{timersLeft, still-runs, task-effect, region-effect}
 
@@ -114,13 +115,14 @@ module _ (t : Table) (c : Call) (z : refusal t c ≡ 0) where
       rw own (task-done h i is after m (held (t .holder)) (t .elected) waits p q refl elects w (still-runs t c facts i is after p same))
 
   -- ENTER and EXIT
-  pub region-done : 5 < c .operation → c .operation < 8 → (entry v who status : ℕ) → entry ≡ holderAfter c (getD (t .holder) (c .a) 0)
+  pub region-done : 5 < c .operation → c .operation < 8 → (entry v who status : ℕ) → entry ≡ holderAfter c (c .caller + 1) (getD (t .holder) (c .a) 0)
       → v ≡ held (set (t .holder) (c .a) entry) → who ≡ electedBy v (t .state) (t .priority) → status ≡ 0
       → record { table = withElected who (withHolders (set (t .holder) (c .a) entry) t); answer = record { status = status; value = 0; key = 0; elected = who } }
       ≡ step t c
   region-done l h entry v who status p q r none =
-      let elects : who ≡ electionOf (withHolders (set (t .holder) (c .a) (holderAfter c (getD (t .holder) (c .a) 0))) t) = r ∙ rw (q, p) (election-by _ _ _) in
-      rw (none, elects, p) (sym (accepted-is t c z ∙ ap accepted (region-effect t c facts l h)))
+      let own : entry ≡ holderAfter c (suc (c .caller)) (getD (t .holder) (c .a) 0) = rw add-one at p in
+      let elects : who ≡ electionOf (withHolders (set (t .holder) (c .a) (holderAfter c (suc (c .caller)) (getD (t .holder) (c .a) 0))) t) = r ∙ rw (q, own) (election-by _ _ _) in
+      rw (none, elects, own) (sym (accepted-is t c z ∙ ap accepted (region-effect t c facts l h)))
 
   -- ---- SEND and RETRIEVE: nobody is elected again, since neither tasks nor holders change
 

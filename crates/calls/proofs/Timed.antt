@@ -21,7 +21,7 @@ use Rattle.rules.proofs.Refusals.{accepted-facts}
 use Rattle.timers.specs.declared.ring.Rows.{Rows}
 use Rattle.timers.specs.Signals.{rungRows, rowsOf, withRows}
 use Rattle.timers.proofs.Signals.{ticked-is}
-use Rattle.calls.specs.Effects.{timerAfter}
+use Rattle.effects.specs.Effects.{timerAfter}
 use Rattle.calls.proofs.Accepted.{timer-effect}
 use Rattle.calls.proofs.Done.{accepted-is, facts, elected-same}
 

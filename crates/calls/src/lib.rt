@@ -1,16 +1,14 @@
 // One call: refused with the first reason that applies, or done and the elected task found afresh.
-mod effect;
-
-use effect::holder_after;
-use effect::target_of;
-use effect::task_after;
-use effect::timer_after;
+use effects::holder_after;
+use effects::target_of;
+use effects::task_after;
+use effects::timer_after;
 use queues::close_criteria;
 use queues::close_elements;
 use queues::place_of;
-use refusals::pick;
+use reasons::pick;
+use reasons::reported_by;
 use refusals::refusal_of;
-use refusals::reported_by;
 use rules::Answer;
 use rules::Call;
 use rules::Done;
@@ -86,7 +84,8 @@ pub fn call(mut t: Table, k: Call) -> Done
         } else {
             let at = k.a as usize;
             if operation < 8 {
-                t.holder[at] = holder_after(k, t.holder[at]);
+                let mine = k.caller + 1;
+                t.holder[at] = holder_after(k, mine, t.holder[at]);
                 let v = held_by(&t.holder);
                 who = elected_by(v, &t.state, &t.priority);
                 t.elected = who;

@@ -1,9 +1,9 @@
 // A fresh table from a configuration: counts, priorities and bounds.
-use refusals::counts_right;
 use rules::Answer;
 use rules::Done;
 use rules::Table;
 use rules::Timer;
+use validity::counts_right;
 ghost use mathlib.Core.Path.{_≡_};
 ghost use mathlib.Core.Bool.{true};
 ghost use Prim.Native.Nat.{_≤_};

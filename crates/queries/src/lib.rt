@@ -1,12 +1,12 @@
 // The five queries: each answers and changes nothing.
-use refusals::entry_at;
-use refusals::pick;
-use refusals::reported_by;
-use refusals::state_at;
-use refusals::valid_of;
+use reasons::entry_at;
+use reasons::pick;
+use reasons::reported_by;
+use reasons::state_at;
 use rules::Answer;
 use rules::Table;
 use tasks::met_by;
+use validity::valid_of;
 ghost use mathlib.Core.Path.{_≡_};
 ghost use mathlib.Core.Bool.{not, cond, _||_};
 ghost use mathlib.Core.List.{[], _∷_};

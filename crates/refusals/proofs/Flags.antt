@@ -15,11 +15,8 @@ use Rattle.rules.specs.Numbers.{WAIT, SEND, RETRIEVE, ARM, DISARM, TICK}
 use Rattle.rules.specs.Words.{first}
 use Rattle.rules.specs.Refusals.{othersAt, wrongState, leaves, missing}
 use Rattle.rules.proofs.Effects.{upto}
+use Rattle.reasons.proofs.Tests.{none-of}
 use Rattle.refusals.specs.Late.{lacking, wrongTask, taskFlags, queueFlags, timerFlags, lateFlags}
-
--- a number past the named ones is none of them
-none-of : (n k : ℕ) → k < n → eqb n k ≡ false
-none-of n k h = ne-eqb n k (omega arith)
 
 -- 15 of the calls about tasks: by the states of the tasks that a and b name
 wrong : (n : ℕ) (a b : Bool)
@@ -37,26 +34,6 @@ pub wrong-is : (states : List ℕ) (c : Call) (x y : ℕ) → x ≡ getD states 
     ≡ wrongTask states c
 unfolding wrongTask
 wrong-is states c x y p q = wrong (c .operation) (eqb x 0) (eqb y 0) ∙ rw (p, q) refl
-
--- 16: STOP of oneself, END, WAIT
-pub leaves-is : (n : ℕ) (a : Bool)
-    → ((eqb n 1 && a) || (eqb n 2 || eqb n 4)) ≡ byOperation false n (false ∷ a ∷ true ∷ false ∷ true ∷ [])
-leaves-is zero a = refl
-leaves-is (suc zero) a = or-false a
-leaves-is (suc (suc zero)) a = refl
-leaves-is (suc (suc (suc zero))) a = refl
-leaves-is (suc (suc (suc (suc zero)))) a = refl
-leaves-is (suc (suc (suc (suc (suc n))))) a =
-    let m = suc (suc (suc (suc (suc n)))) in
-    rw (none-of m 1 (omega arith), none-of m 2 (omega arith), none-of m 4 (omega arith)) refl
-
--- 14 does not apply to a number that is no operation
-pub missing-past : (tasks regions queues : ℕ) (c : Call) → 13 ≤ c .operation → false ≡ missing tasks regions queues c
-unfolding missing
-missing-past tasks regions queues c h = rw List·getD-eq-default
-
-pub past-end : (l : List ℕ) (i : ℕ) → length l ≤ i → 0 ≡ getD l i 0
-past-end l i h = sym (List·getD-eq-default l 0 h)
 
 -- ---- the reasons from 14 on, by the kind of the call
 
@@ -128,13 +105,3 @@ module _ (tasks regions queues : ℕ) (state holder bound lengths criterion : Li
   unfolding lateFlags taskFlags
   late-task m h r p =
       rw (m, wrong-below state timers c (omega arith), ne-eqb (c .operation) SEND (omega arith), lacking-other lengths criterion c (omega arith)) p
-
--- ---- a match that names the first n numbers has left them all out
-
-abbrev pub Not : ℕ → ℕ → Type 0
-Not zero k = Unit {0}
-Not (suc n) k = Not n k × (k ≡ n → ⊥)
-
-pub none-below : (n k : ℕ) → Not n k → n ≤ k
-none-below zero k h = omega arith
-none-below (suc n) k h = let l = none-below n k (h .0) in let other : k ≢ n = h .1 in omega arith

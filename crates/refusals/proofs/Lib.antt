@@ -1,4 +1,3 @@
 -- Laws that the proofs of this crate's functions cite, and those of the crates above it.
 pub mod Flags
-pub mod Checked
 pub mod Refused

@@ -1,3 +1,2 @@
 -- The definitions that this crate's contracts cite beside those of the rules.
-pub mod Lent
 pub mod Late

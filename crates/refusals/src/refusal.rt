@@ -1,78 +1,25 @@
 // The refusals, in the order of the status table: the first that applies.
-use super::choice::pick;
-use super::validity::valid_of;
 use queues::place_of;
+use reasons::early_of;
+use reasons::entry_at;
+use reasons::leaves_of;
+use reasons::missing_of;
+use reasons::pick;
+use reasons::state_at;
 use rules::Call;
 use rules::Timer;
 use tasks::held_by;
 use timers::others_at;
+use validity::valid_of;
 ghost use mathlib.Core.Path.{_≡_};
 ghost use mathlib.Core.Bool.{not, _&&_};
-ghost use mathlib.Core.List.{[], _∷_};
-ghost use lib.Dec.{eqb, ltb, leb};
+ghost use lib.Dec.{eqb, leb};
 ghost use lib.ListN.{length, getD};
-ghost use Rattle.rules.specs.Words.{isZero, when, first};
+ghost use Rattle.rules.specs.Words.{isZero, first};
 ghost use Rattle.rules.specs.Regions.{held};
-ghost use Rattle.rules.specs.Refusals.{outsideBarred, notElected, tickByTask, missing, leaves, refusal};
-ghost use Rattle.refusals.specs.Lent.{lent};
+ghost use Rattle.rules.specs.Refusals.{leaves, refusal};
+ghost use Rattle.validity.specs.Lent.{lent};
 ghost use Rattle.refusals.specs.Late.{lacking, wrongTask, taskFlags, queueFlags, timerFlags, lateFlags};
-
-// 10, 11, 13, 12, and 13 for a TICK by the elected task: what is refused before the call's numbers are looked at; 0 where none applies.
-fn early_of(ok: bool, elected: u8, k: Call) -> u8
-    ensures { λ r. ⌜ r ≡ first (when 10 (not ok) ∷ when 11 (ltb 12 (k .operation)) ∷ when 13 (outsideBarred k) ∷ when 12 (notElected elected (k .caller)) ∷ when 13 (tickByTask k) ∷ []) ⌝ }
-{
-    let outside = k.caller == 255;
-    let tick = k.operation == 12;
-    let barred = outside & !((k.operation == 3) | tick);
-    let other = !outside & !(k.caller == elected);
-    let last = pick(tick & !outside, 13, 0);
-    let r12 = pick(other, 12, last);
-    let r13 = pick(barred, 13, r12);
-    let r11 = pick(12 < k.operation, 11, r13);
-    pick(!ok, 10, r11)
-}
-
-// 14: a number of the call that stands for nothing. The numbers are compared as they come, 32 bits wide.
-fn missing_of(tasks: u8, regions: u8, queues: u8, k: Call) -> bool
-    ensures { λ r. ⌜ r ≡ missing tasks regions queues k ⌝ }
-{
-    let a = k.a;
-    let operation = k.operation;
-    match operation {
-        0 => !(a < (tasks as u32)),
-        1 => !(a < (tasks as u32)),
-        2 => false,
-        3 => !(a < 16) | !(k.b < (tasks as u32)),
-        4 => (a == 0) | (65535 < a),
-        5 => (a == 0) | (65535 < a),
-        6 => !(a < (regions as u32)),
-        7 => !(a < (regions as u32)),
-        8 => !(a < (queues as u32)) | !(k.c < 16),
-        9 => !(a < (queues as u32)) | (16 < k.c),
-        10 => !(a < 16) | (!(k.b < 16) | ((k.c == 0) | (2147483647 < k.c))),
-        11 => !(a < 16),
-        12 => false,
-        _ => false,
-    }
-}
-
-// The state of a task, 0 for one that does not exist.
-pub fn state_at(state: &[u8; 32], i: u32) -> u8
-    requires { ⌜ length (now state) ≡ 32 ⌝ }
-    ensures { λ r. ⌜ r ≡ getD (now (state .entry)) i 0 ⌝ }
-{
-    let at = i as usize;
-    if at < 32 { state[at] } else { 0 }
-}
-
-// A queue's bound or length, 0 for one that does not exist.
-pub fn entry_at(entries: &[u8; 8], q: u32) -> u8
-    requires { ⌜ length (now entries) ≡ 8 ⌝ }
-    ensures { λ r. ⌜ r ≡ getD (now (entries .entry)) q 0 ⌝ }
-{
-    let at = q as usize;
-    if at < 8 { entries[at] } else { 0 }
-}
 
 // 15 of the calls about tasks: START of a task not stopped, STOP or SIGNAL of a stopped one.
 fn wrong_task_of(state: &[u8; 32], k: Call) -> bool
@@ -83,14 +30,6 @@ fn wrong_task_of(state: &[u8; 32], k: Call) -> bool
     let a = state_at(state, k.a) == 0;
     let b = state_at(state, k.b) == 0;
     ((operation == 0) & !a) | (((operation == 1) & a) | ((operation == 3) & b))
-}
-
-// 16, but for the regions: the calls by which the caller would stop running.
-fn leaves_of(k: Call) -> bool
-    ensures { λ r. ⌜ r ≡ leaves k ⌝ }
-{
-    let operation = k.operation;
-    ((operation == 1) & (k.a == (k.caller as u32))) | ((operation == 2) | (operation == 4))
 }
 
 // 17: SEND to a queue at its bound.

@@ -2,10 +2,10 @@
 use executive::fresh;
 use frames::all_digits;
 use frames::byte_at;
-use refusals::counts_right;
 use rules::Answer;
 use rules::Done;
 use rules::Table;
+use validity::counts_right;
 ghost use mathlib.Core.Path.{_≡_};
 ghost use mathlib.Core.Bool.{true, false, _||_};
 ghost use Prim.Native.Nat.{_≤_, _%_};

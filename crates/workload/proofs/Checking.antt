@@ -7,7 +7,7 @@ use native.Mathlib.Omega.{arith}
 use lib.ListN.{length-set}
 use Rattle.rules.specs.declared.Table.{Table}
 use Rattle.rules.specs.Validity.{valid}
-use Rattle.refusals.specs.Lent.{Lengths}
+use Rattle.validity.specs.Lent.{Lengths}
 use Rattle.workload.specs.Draw.{next}
 use Rattle.workload.specs.Checks.{Checks, withOldest, standing, check, checked}
 

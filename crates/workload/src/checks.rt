@@ -2,8 +2,8 @@
 use crate::calls::run_of;
 use crate::draw::next_of;
 use crate::tally::counted;
-use refusals::valid_of;
 use rules::Table;
+use validity::valid_of;
 ghost use mathlib.Core.Path.{_≡_};
 ghost use Rattle.workload.specs.Checks.{checked, validTimes};
 

@@ -1,5 +1,5 @@
 // The generator: a number that is drawn again for each call, and the call that its digits stand for.
-use refusals::pick;
+use reasons::pick;
 use rules::Call;
 ghost use mathlib.Core.Path.{_≡_};
 ghost use mathlib.Core.Bool.{cond};

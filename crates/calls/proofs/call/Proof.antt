@@ -10,8 +10,8 @@ use Rattle.rules.specs.declared.Call.{Call}
 use Rattle.rules.specs.Numbers.{SEND, RETRIEVE}
 use Rattle.rules.specs.Refusals.{refusal}
 use Rattle.rules.proofs.Refusals.{Accepted, accepted-facts}
-use Rattle.refusals.specs.Lent.{Lengths}
-use Rattle.calls.specs.Effects.{target}
+use Rattle.validity.specs.Lent.{Lengths}
+use Rattle.effects.specs.Effects.{target}
 use Rattle.calls.proofs.Accepted.{target-below, tasks-fit, region-there, regions-fit, caller-below, timer-there}
 use Rattle.calls.proofs.Done.{Fits, refused-done, stop-done, task-done, task-kept, region-done, free, send-done, found, retrieve-done, retrieve-is, retrieve-some, queue-fits}
 use Rattle.calls.proofs.Timed.{timer-done, tick-done}
@@ -65,14 +65,14 @@ target-of-requires c κs = search needs
 cast-i : tie.Need-cast-i
 cast-i c = search needs
 
-element-copy-out-t55 : tie.Need-element-copy-out-t55
-element-copy-out-t55 c = omega (arith, c .target-of .ensures, task-there (c .before .before) (c .before .if2 .taken))
+element-copy-out-t56 : tie.Need-element-copy-out-t56
+element-copy-out-t56 c = omega (arith, c .target-of .ensures, task-there (c .before .before) (c .before .if2 .taken))
 
-mul-t56 : tie.Need-mul-t56
-mul-t56 c = search needs
+mul-t57 : tie.Need-mul-t57
+mul-t57 c = search needs
 
-element-copy-out-t59 : tie.Need-element-copy-out-t59
-element-copy-out-t59 c = omega (arith, c .before .target-of .ensures, task-there (c .before .before .before) (c .before .before .if2 .taken))
+element-copy-out-t60 : tie.Need-element-copy-out-t60
+element-copy-out-t60 c = omega (arith, c .before .target-of .ensures, task-there (c .before .before .before) (c .before .before .if2 .taken))
 
 mul-met-by : tie.Need-mul-met-by
 mul-met-by c = search needs
@@ -131,20 +131,23 @@ disarmed-all-requires c κs = search needs
 cast-at : tie.Need-cast-at
 cast-at c = search needs
 
+add-mine : tie.Need-add-mine
+add-mine c = let l = caller-small (c .before .before .before .before) (c .before .before .before .if2 .left) (c .before .if5 .taken) in omega arith
+
 element-copy-out-holder-after : tie.Need-element-copy-out-holder-after
-element-copy-out-holder-after c = region-small (c .before .before .before) (c .before .before .if2 .left) (c .if5 .taken)
+element-copy-out-holder-after c = region-small (c .before .before .before .before) (c .before .before .before .if2 .left) (c .before .if5 .taken)
 
 holder-after-requires : tie.Need-holder-after-requires
-holder-after-requires c κs = caller-small (c .before .before .before .before) (c .before .before .before .if2 .left) (c .before .if5 .taken)
+holder-after-requires c κs = search needs
 
 element-write-t-5 : tie.Need-element-write-t-5
-element-write-t-5 c = region-small (c .before .before .before .before .before) (c .before .before .before .before .if2 .left) (c .before .before .if5 .taken)
+element-write-t-5 c = region-small (c .before .before .before .before .before .before) (c .before .before .before .before .before .if2 .left) (c .before .before .before .if5 .taken)
 
 held-by-requires-2 : tie.Need-held-by-requires-2
-held-by-requires-2 c κs = rw length-set (long (c .before .before .before .before .before .before .before .before .before .before .before .before .before .before .before .before .before .before .before .before .before .before) .holder-long)
+held-by-requires-2 c κs = rw length-set (long (c .before .before .before .before .before .before .before .before .before .before .before .before .before .before .before .before .before .before .before .before .before .before .before) .holder-long)
 
 elected-by-requires-2 : tie.Need-elected-by-requires-2
-elected-by-requires-2 c κs = (long (c .before .before .before .before .before .before .before .before .before .before .before .before .before .before .before .before .before .before .before .before .before .before .before .before .before .before) .state-long, long (c .before .before .before .before .before .before .before .before .before .before .before .before .before .before .before .before .before .before .before .before .before .before .before .before .before .before) .priority-long)
+elected-by-requires-2 c κs = (long (c .before .before .before .before .before .before .before .before .before .before .before .before .before .before .before .before .before .before .before .before .before .before .before .before .before .before .before) .state-long, long (c .before .before .before .before .before .before .before .before .before .before .before .before .before .before .before .before .before .before .before .before .before .before .before .before .before .before .before) .priority-long)
 
 element-copy-out-n : tie.Need-element-copy-out-n
 element-copy-out-n c = queue-there (c .before .before .before .before) (c .before .if5 .left) (c .if6 .taken) .queue-small
@@ -209,8 +212,8 @@ element-copy-out-timer-after c = let f = timer-there (table (c .before .before .
 timer-after-requires : tie.Need-timer-after-requires
 timer-after-requires c κs = search needs
 
-mul-t132 : tie.Need-mul-t132
-mul-t132 c = let f = timer-there (table (c .before .before .before .before .before .before .before)) (call (c .before .before .before .before .before .before .before)) (facts (c .before .before .before .before .before .before .before)) (c .before .before .before .if6 .left) (c .before .before .if8 .taken) in omega arith
+mul-t133 : tie.Need-mul-t133
+mul-t133 c = let f = timer-there (table (c .before .before .before .before .before .before .before)) (call (c .before .before .before .before .before .before .before)) (facts (c .before .before .before .before .before .before .before)) (c .before .before .before .if6 .left) (c .before .before .if8 .taken) in omega arith
 
 element-set-from-t : tie.Need-element-set-from-t
 element-set-from-t c = let f = timer-there (table (c .before .before .before .before .before .before .before)) (call (c .before .before .before .before .before .before .before)) (facts (c .before .before .before .before .before .before .before)) (c .before .before .before .if6 .left) (c .before .before .if8 .taken) in omega arith
@@ -240,7 +243,7 @@ returns-3 : tie.Need-returns-3
 returns-3 c = task-kept _ _ (zero (c .before .before .before .before .before .before .before .before .before .before .before .before .before .before)) (c .before .before .before .before .before .before .before .before .before .before .before .before .before .if2 .taken) _ (c .before .before .before .before .before .before .before .before .before .before .before .before .target-of .ensures) _ _ _ _ (c .before .before .before .before .task-after .ensures) (c .before .before .before .before .before .met-by .ensures) (c .if3 .left) (own (c .before .before .before .before .before .before .before .before .before .before .before .before .before .before)) (c .before .before .before .pick .ensures)
 
 returns-4 : tie.Need-returns-4
-returns-4 c = region-done _ _ (zero (c .before .before .before .before .before .before .before .before .before .before .before .before)) (c .before .before .before .before .before .before .before .before .before .before .before .if2 .left) (c .before .before .before .before .before .before .before .before .before .if5 .taken) _ _ _ _ (c .before .before .before .before .before .before .before .holder-after .ensures) (c .before .before .before .before .held-by2 .ensures) (c .elected-by2 .ensures) (c .before .before .before .before .before .before .before .before .before .before .before .before .if1 .taken)
+returns-4 c = region-done _ _ (zero (c .before .before .before .before .before .before .before .before .before .before .before .before .before)) (c .before .before .before .before .before .before .before .before .before .before .before .before .if2 .left) (c .before .before .before .before .before .before .before .before .before .before .if5 .taken) _ _ _ _ (c .before .before .before .before .before .before .before .holder-after .ensures) (c .before .before .before .before .held-by2 .ensures) (c .elected-by2 .ensures) (c .before .before .before .before .before .before .before .before .before .before .before .before .before .if1 .taken)
 
 returns-5 : tie.Need-returns-5
 returns-5 c = send-done _ _ (zero (c .before .before .before .before .before .before .before)) (c .before .if7 .taken) _ _ (c .before .before .before .before .before .before .before .if1 .taken) (own (c .before .before .before .before .before .before .before))
@@ -265,9 +268,9 @@ call-spec =
     reported-by-requires
     target-of-requires
     cast-i
-    element-copy-out-t55
-    mul-t56
-    element-copy-out-t59
+    element-copy-out-t56
+    mul-t57
+    element-copy-out-t60
     mul-met-by
     element-copy-out-met-by
     element-copy-out-met-by-2
@@ -287,6 +290,7 @@ call-spec =
     cast-disarmed-all
     disarmed-all-requires
     cast-at
+    add-mine
     element-copy-out-holder-after
     holder-after-requires
     element-write-t-5
@@ -313,7 +317,7 @@ call-spec =
     mul-timer-after
     element-copy-out-timer-after
     timer-after-requires
-    mul-t132
+    mul-t133
     element-set-from-t
     later-by-requires
     rung-rows-requires

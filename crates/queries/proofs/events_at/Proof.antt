@@ -1,7 +1,7 @@
 -- Past the array the definition gives 0 too.
 use borrow.Author.Needs.{needs}
 use Rattle.rules.proofs.Counts.{ends}
-use Rattle.refusals.proofs.Flags.{past-end}
+use Rattle.reasons.proofs.Tests.{past-end}
 use Rattle.queries.proofs.events_at.Statement.{statement}
 use Rattle.queries.proofs.events_at.Tie as tie
 

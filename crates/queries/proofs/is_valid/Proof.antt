@@ -1,7 +1,7 @@
 -- The arrays have the lengths of their types.
 use borrow.Author.Needs.{needs}
 use native.Mathlib.Omega.{arith}
-use Rattle.refusals.specs.Lent.{Lengths}
+use Rattle.validity.specs.Lent.{Lengths}
 use Rattle.queries.proofs.is_valid.Statement.{statement}
 use Rattle.queries.proofs.is_valid.Tie as tie
 

@@ -1,0 +1,32 @@
+-- The first six operations as one change of one task, ENTER and EXIT as one of one region's entry, and ARM and DISARM as one of one
+-- timer, for the code's shape.
+use Prim.Native.Nat.{ℕ, _%_}
+use mathlib.Core.Bool.{cond}
+use lib.Dec.{eqb, ltb}
+use Rattle.rules.specs.declared.Task.{Task}
+use Rattle.rules.specs.declared.Timer.{Timer}
+use Rattle.rules.specs.declared.Call.{Call}
+use Rattle.rules.specs.Numbers.{START, SIGNAL, WAIT, CLEAR, ENTER, ARM}
+use Rattle.rules.specs.Tasks.{asStarted, asStopped, signalled, waited, asCleared}
+use Rattle.rules.specs.Timers.{later, asArmed, disarmed}
+
+-- which task a call changes
+unfoldable pub target : Call → ℕ
+target c = cond (ltb (c .operation) 2) (c .a) (cond (eqb (c .operation) SIGNAL) (c .b) (c .caller))
+
+-- the task after the call; an accepted call's numbers fit, so that the remainders change nothing
+unfoldable pub taskAfter : Call → Task → Task
+taskAfter c r =
+    cond (eqb (c .operation) START) (asStarted r)
+    (cond (eqb (c .operation) SIGNAL) (signalled (c .a % 16) r)
+    (cond (eqb (c .operation) WAIT) (waited (c .a % 65536) (c .b % 256) r)
+    (cond (eqb (c .operation) CLEAR) (asCleared (c .a % 65536) r) (asStopped r))))
+
+-- a region's entry after ENTER or EXIT by the task whose entry is `mine`
+unfoldable pub holderAfter : Call → ℕ → ℕ → ℕ
+holderAfter c mine h = cond (eqb (c .operation) ENTER) mine (cond (eqb h mine) 0 h)
+
+-- a timer after ARM or DISARM; an event that exists fits, so that the remainder changes nothing
+unfoldable pub timerAfter : Call → ℕ → Timer → Timer
+timerAfter c ticks r =
+    cond (eqb (c .operation) ARM) (asArmed (c .caller) (c .b % 256) (later ticks (c .c)) r) (disarmed (c .caller) r)

@@ -1,0 +1,2 @@
+-- Laws that the proof of the validity check cites.
+pub mod Checked

@@ -1,0 +1,2 @@
+-- A table whose arrays are lent.
+pub mod Lent

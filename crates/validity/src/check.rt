@@ -1,0 +1,58 @@
+// The validity check over a table whose arrays are lent: every rule of the list, by subject.
+use super::counts::counts_right;
+use queues::criteria_right;
+use queues::queues_right;
+use rules::Timer;
+use tasks::elected_by;
+use tasks::held_by;
+use tasks::holder_right;
+use tasks::regions_right;
+use tasks::tasks_right;
+use timers::timers_right;
+ghost use mathlib.Core.Path.{_≡_};
+ghost use lib.ListN.{length};
+ghost use Rattle.rules.specs.Validity.{valid};
+ghost use Rattle.validity.specs.Lent.{lent};
+
+// The holder is looked for once, and serves the regions' part and the election.
+pub fn valid_of<'a>(
+    tasks: u8,
+    regions: u8,
+    queues: u8,
+    elected: u8,
+    priority: &'a [u8; 32],
+    state: &'a [u8; 32],
+    arrived: &'a [u16; 32],
+    list: &'a [u16; 32],
+    operator: &'a [u8; 32],
+    holder: &'a [u8; 16],
+    bound: &'a [u8; 8],
+    lengths: &'a [u8; 8],
+    element: &'a [u32; 512],
+    criterion: &'a [u8; 512],
+    ticks: u32,
+    timers: [Timer; 16],
+) -> bool
+    requires { ⌜ length (now priority) ≡ 32 ⌝ }
+    requires { ⌜ length (now state) ≡ 32 ⌝ }
+    requires { ⌜ length (now arrived) ≡ 32 ⌝ }
+    requires { ⌜ length (now list) ≡ 32 ⌝ }
+    requires { ⌜ length (now operator) ≡ 32 ⌝ }
+    requires { ⌜ length (now holder) ≡ 16 ⌝ }
+    requires { ⌜ length (now bound) ≡ 8 ⌝ }
+    requires { ⌜ length (now lengths) ≡ 8 ⌝ }
+    requires { ⌜ length (now element) ≡ 512 ⌝ }
+    requires { ⌜ length (now criterion) ≡ 512 ⌝ }
+    ensures { λ r. ⌜ r ≡ valid (lent tasks regions queues elected (now (priority .entry)) (now (state .entry)) (now (arrived .entry)) (now (list .entry)) (now (operator .entry)) (now (holder .entry)) (now (bound .entry)) (now (lengths .entry)) (now (element .entry)) (now (criterion .entry)) ticks timers) ⌝ }
+{
+    let counts = counts_right(tasks, regions, queues);
+    let columns = tasks_right(tasks, priority, state, arrived, list, operator);
+    let v = held_by(holder);
+    let held = regions_right(regions, v, holder);
+    let ready = holder_right(tasks, state, v);
+    let stores = queues_right(queues, bound, lengths, element, criterion);
+    let criteria = criteria_right(criterion);
+    let who = elected_by(v, state, priority);
+    let clock = timers_right(tasks, ticks, timers, state);
+    counts & (columns & (held & (ready & (stores & (criteria & ((elected == who) & clock))))))
+}
