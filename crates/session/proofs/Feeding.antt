@@ -10,10 +10,10 @@ use borrow.Author.Tests.{le-leb}
 use Rattle.rules.specs.declared.Table.{Table}
 use Rattle.rules.specs.declared.Answer.{Answer}
 use Rattle.frames.specs.Answers.{answerLine, placed}
-use Rattle.frames.proofs.Parts.{answer-length}
-use Rattle.session.specs.declared.Standing.{Standing}
+use Rattle.frames.proofs.Written.{answer-length}
+use Rattle.bench_line.specs.declared.Standing.{Standing}
 use Rattle.session.specs.declared.turn.Turn.{Turn}
-use Rattle.session.specs.Steps.{lineDone}
+use Rattle.bench_line.specs.Steps.{lineDone}
 use Rattle.session.specs.Run.{cut, after, answered, stood}
 use Rattle.session.specs.Pieces.{turnAt, fitting, taken, over, fedAt, feedTold, pieceAnswers}
 use Rattle.session.proofs.Turns.{Took, turn-took, turn-none}

@@ -14,13 +14,13 @@ use Rattle.lines.specs.declared.ends.Line.{Line}
 use Rattle.lines.specs.declared.ends.Line.the-variants.{Whole, TooLong, Unended, Nothing}
 use Rattle.lines.specs.Ends.{lineFeed, longest, lineIn, lineAt}
 use Rattle.rules.specs.declared.Done.{Done}
-use Rattle.session.specs.declared.Standing.{Standing}
+use Rattle.bench_line.specs.declared.Standing.{Standing}
 use Rattle.session.specs.declared.turn.Turn.{Turn}
-use Rattle.session.specs.Steps.{malformed, lineDone}
+use Rattle.bench_line.specs.Steps.{part, malformed, tooLong, lineDone}
 use Rattle.session.specs.Run.{cut}
-use Rattle.session.specs.Pieces.{part, tooLong, turned, turnOf, turnAt}
+use Rattle.session.specs.Pieces.{turned, turnOf, turnAt}
 use Rattle.session.proofs.Cuts.{cut-ended, cut-unended}
-use Rattle.session.proofs.Alike.{too-long-done}
+use Rattle.bench_line.proofs.Called.{too-long-done}
 
 -- r took a line
 pub record Took (s : Standing) (input : List ℕ) (at : ℕ) (r : Turn) : Type 0 where

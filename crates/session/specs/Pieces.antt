@@ -1,5 +1,5 @@
 -- A piece of the input, answered into a lent buffer: as many lines as it has room for.
-use Prim.Native.Nat.{ℕ, suc, _+_, _*_, _-_, _/_}
+use Prim.Native.Nat.{ℕ, suc, _+_, _*_, _/_}
 use mathlib.Core.Bool.{Bool, cond}
 use mathlib.Core.List.{List, [], _∷_, _++_}
 use lib.Dec.{leb}
@@ -9,25 +9,17 @@ use Rattle.lines.specs.declared.ends.Line.the-variants.{Whole, TooLong, Unended
 use Rattle.lines.specs.Ends.{lineAt}
 use Rattle.rules.specs.declared.Table.{Table}
 use Rattle.rules.specs.declared.Done.{Done}
-use Rattle.session.specs.declared.Standing.{Standing}
+use Rattle.bench_line.specs.declared.Standing.{Standing}
+use Rattle.bench_line.specs.Steps.{part, malformed, tooLong, lineDone}
 use Rattle.session.specs.declared.turn.Turn.{Turn}
 use Rattle.session.specs.declared.Fed.{Fed}
 use Rattle.session.specs.declared.Held.{Held}
-use Rattle.session.specs.Steps.{malformed, firstRefused, lineDone}
 use Rattle.session.specs.Run.{cut, answered, stood, ending, kept}
 
 -- ---- the line that begins at a place
 
--- a line of over 128 bytes, whatever they are
-unfoldable pub tooLong : Standing → Done
-tooLong s = cond (s .begun) (malformed (s .table)) (firstRefused 21)
-
 abbrev pub turned : Done → ℕ → Turn
 turned d next = record { done = d; next = next }
-
--- the bytes from a place up to another
-abbrev pub part : ℕ → ℕ → List ℕ → List ℕ
-part from to input = take (to - from) (drop from input)
 
 -- what the line does, and the place behind it; 0 where no line is ended, with what an unended line gets
 abbrev pub turnOf : Standing → List ℕ → Line → Turn

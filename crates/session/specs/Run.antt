@@ -1,14 +1,13 @@
 -- The whole run, from the bytes of the input to those of the output; and the same run over parts of the input.
 use Prim.Native.Nat.{ℕ, suc}
-use mathlib.Core.Bool.{false, true, cond}
+use mathlib.Core.Bool.{true, cond}
 use mathlib.Core.List.{List, [], _∷_, _++_}
 use lib.Dec.{eqb}
 use lib.ListN.{take}
-use Rattle.rules.specs.Fresh.{zeroTable}
 use Rattle.lines.specs.Ends.{lineFeed, longest}
 use Rattle.frames.specs.Answers.{answerLine}
-use Rattle.session.specs.declared.Standing.{Standing}
-use Rattle.session.specs.Steps.{malformed, lineDone}
+use Rattle.bench_line.specs.declared.Standing.{Standing}
+use Rattle.bench_line.specs.Steps.{start, malformed, lineDone}
 
 -- ---- lines, "each ended by a line feed", and the bytes behind the last of them
 
@@ -29,9 +28,6 @@ cut (b ∷ bs) =
     (onto b (cut bs .lines) (cut bs .rest))
 
 -- ---- the run
-
-abbrev pub start : Standing
-start = record { table = zeroTable; begun = false }
 
 abbrev pub after : Standing → List ℕ → Standing
 after s line = record { table = lineDone s line .table; begun = true }

@@ -1,7 +1,7 @@
 // The ended lines of a piece of the input, one after the other.
 use crate::Fed;
-use crate::Standing;
 use crate::turn::turn_at;
+use bench_line::Standing;
 use frames::put_answer;
 use rules::Table;
 ghost use mathlib.Core.Path.{_≡_};

@@ -31,14 +31,14 @@ too-long-requires c κs = search needs
 enum-told : tie.Need-enum-told
 enum-told c = search needs
 
-malformed-requires : tie.Need-malformed-requires
-malformed-requires c κs = search needs
+malformed-line-requires : tie.Need-malformed-line-requires
+malformed-line-requires c κs = search needs
 
 enum-told-2 : tie.Need-enum-told-2
 enum-told-2 c = search needs
 
-malformed-requires-2 : tie.Need-malformed-requires-2
-malformed-requires-2 c κs = search needs
+malformed-line-requires-2 : tie.Need-malformed-line-requires-2
+malformed-line-requires-2 c κs = search needs
 
 returns : tie.Need-returns
 returns c = turn-whole _ _ _ _ (c .before .before .before .before .before .line-from .ensures) _ _ _ _ (c .before .before .before .line .given .1) (c .one-line .ensures)
@@ -65,9 +65,9 @@ turn-at-spec =
     enum-known-line-2
     too-long-requires
     enum-told
-    malformed-requires
+    malformed-line-requires
     enum-told-2
-    malformed-requires-2
+    malformed-line-requires-2
     returns
     returns-2
     returns-3
