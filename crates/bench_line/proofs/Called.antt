@@ -1,30 +1,22 @@
 -- Laws of one line: the tests that the code makes, and what the line then does.
-use Prim.Native.Nat.{ℕ, _%_, _<_, _≤_}
-use mathlib.Core.Path.{_≡_, refl, sym, ap, _∙_}
-use mathlib.Core.Bool.{Bool, true, false, not, _&&_, _||_, and-false}
+use Prim.Native.Nat.{ℕ, _<_}
+use mathlib.Core.Path.{_≡_, sym, ap, _∙_}
+use mathlib.Core.Bool.{Bool, true, false, not, and-false}
 use mathlib.Core.List.{List}
-use lib.Dec.{eqb, ltb, leb}
 use lib.ListN.{length}
-use borrow.Author.Tests.{ne-eqb, lt-leb, leb-true}
+use borrow.Author.Tests.{ne-eqb, lt-leb}
 use Rattle.rules.specs.declared.Table.{Table}
 use Rattle.rules.specs.declared.Call.{Call}
 use Rattle.rules.specs.declared.Done.{Done}
 use Rattle.rules.specs.Words.{every}
-use Rattle.rules.proofs.Bools.{and-left}
 use Rattle.rules.specs.Step.{step}
 use Rattle.digits.specs.Digits.{isDigit}
 use Rattle.lines.specs.Ends.{longest}
 use Rattle.frames.specs.Calls.{callLength, callIn}
-use Rattle.bench_line.specs.declared.Standing.{Standing}
-use Rattle.bench_line.specs.Steps.{plain, malformed, callLine, firstReasons, firstRefused, firstLine, tooLong, lineDone}
-
-pub not-true : (b : Bool) → not b ≡ true → b ≡ false
-not-true false h = refl
-not-true true h = sym h
-
-pub not-false : (b : Bool) → not b ≡ false → b ≡ true
-not-false true h = refl
-not-false false h = sym h
+use Rattle.opening.specs.First.{plain, firstReasons, firstRefused, firstLine}
+use Rattle.opening.proofs.Plain.{not-true, not-false}
+use Rattle.opening.specs.declared.Standing.{Standing}
+use Rattle.bench_line.specs.Steps.{malformed, callLine, tooLong, lineDone}
 
 -- ---- a call line
 
@@ -42,26 +34,6 @@ module _ (t : Table) (line : List ℕ) (d : Done) where
     unfolding callLine plain
     call-of-digits c n l f k = simp (l, ← e, not-false ok n) (k ∙ ap (step t) f)
 
--- ---- the first line
-
-module _ (line : List ℕ) (ok : Bool) (e : ok ≡ every isDigit line) where
-  pub first-not-plain : not (leb (length line) longest && ok) ≡ true → firstRefused 21 ≡ firstLine line
-  unfolding firstLine firstReasons plain
-  first-not-plain n = simp (rw e at (not-true (leb (length line) longest && ok) n))
-
-  pub line-plain : not (leb (length line) longest && ok) ≡ false → plain line ≡ true
-  unfolding plain
-  line-plain n = rw e at (not-false (leb (length line) longest && ok) n)
-
-  pub first-short-or-odd : not (leb (length line) longest && ok) ≡ false → (ltb (length line) 6 || eqb (length line % 2) 1) ≡ true
-      → firstRefused 21 ≡ firstLine line
-  unfolding firstLine firstReasons
-  first-short-or-odd n l = simp (line-plain n, l)
-
-pub plain-short : (line : List ℕ) → plain line ≡ true → length line ≤ longest
-unfolding plain
-plain-short line h = leb-true (length line) longest (and-left (leb (length line) longest) (every isDigit line) h)
-
 -- ---- any line
 
 module _ (s : Standing) (line : List ℕ) (d : Done) where
@@ -74,13 +46,13 @@ module _ (s : Standing) (line : List ℕ) (d : Done) where
   first-done b e = rw b e
 
 module _ (s : Standing) (d : Done) where
-  pub later-too-long : s .begun ≡ true → d ≡ malformed (s .table) → d ≡ tooLong s
+  pub first-too-long : not (s .begun) ≡ true → d ≡ firstRefused 21 → d ≡ tooLong s
   unfolding tooLong
-  later-too-long b e = rw b e
+  first-too-long b e = rw (not-true (s .begun) b) e
 
-  pub first-too-long : s .begun ≡ false → d ≡ firstRefused 21 → d ≡ tooLong s
+  pub later-too-long : not (s .begun) ≡ false → d ≡ malformed (s .table) → d ≡ tooLong s
   unfolding tooLong
-  first-too-long b e = rw b e
+  later-too-long b e = rw (not-false (s .begun) b) e
 
 -- lines that are too long are all alike
 pub too-long-done : (s : Standing) (line : List ℕ) → longest < length line → tooLong s ≡ lineDone s line

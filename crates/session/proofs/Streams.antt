@@ -10,13 +10,16 @@ use lib.Seq.{take-all, take-append-le, take-take, length-take-le}
 use borrow.Author.Tests.{leb-true, leb-false}
 use Rattle.rules.specs.Queues.{before}
 use Rattle.lines.specs.Ends.{lineFeed, longest}
-use Rattle.bench_line.specs.declared.Standing.{Standing}
-use Rattle.bench_line.specs.Steps.{start, lineDone}
+use Rattle.opening.specs.declared.Standing.{Standing}
+use Rattle.opening.specs.First.{start}
+use Rattle.bench_line.specs.Steps.{lineDone}
 use Rattle.bench_line.proofs.Called.{long-alike}
 use Rattle.frames.specs.Answers.{answerLine}
-use Rattle.session.specs.Run.{Cut, cut, after, answered, stood, ending, runFrom, run, kept, joined, runParts}
-use Rattle.session.specs.Pieces.{pieceAnswers, pieceLeft, pieceTold}
-use Rattle.session.proofs.Cuts.{cut-unended, cut-rest, cut-append, cut-onto, unended-take, ontoAll}
+use Rattle.feeding.specs.Lines.{Cut, cut, after, answered, stood}
+use Rattle.feeding.specs.Feed.{pieceAnswers}
+use Rattle.feeding.proofs.Cuts.{cut-unended, cut-rest, cut-append, cut-onto, unended-take, ontoAll}
+use Rattle.session.specs.Run.{ending, runFrom, run, kept, joined, runParts}
+use Rattle.session.specs.Pieces.{pieceLeft, pieceTold}
 use Rattle.session.proofs.Buffers.{fitting-all, left-all}
 
 -- ---- lines behind lines

@@ -1,15 +1,16 @@
 // A run over the input piece by piece: each piece, and the end.
 use crate::Held;
-use crate::ended::feed;
-use bench_line::Standing;
 use bench_line::malformed_line;
+use feeding::feed;
 use frames::put_answer;
+use opening::Standing;
 ghost use mathlib.Core.Path.{_≡_};
 ghost use Prim.Native.Nat.{_+_, _≤_, min};
 ghost use lib.ListN.{length, take, drop};
 ghost use Rattle.frames.specs.Answers.{placed};
+ghost use Rattle.feeding.specs.Feed.{pieceAnswers, over};
 ghost use Rattle.session.specs.Run.{ending};
-ghost use Rattle.session.specs.Pieces.{pieceTold, pieceLeft, pieceAnswers, over, endingLength};
+ghost use Rattle.session.specs.Pieces.{pieceTold, pieceLeft, endingLength};
 
 fn lesser(x: usize, y: usize) -> usize
     ensures { λ r. ⌜ r ≡ min x y ⌝ }
