@@ -2,9 +2,9 @@
 use libc::STDIN_FILENO;
 use libc::STDOUT_FILENO;
 use session::Standing;
+use session::at_start;
 use session::finish;
 use session::piece;
-use session::start;
 ghost use Prim.Native.Nat.{_*_, _<_, _≤_};
 ghost use lib.ListN.{length};
 
@@ -50,7 +50,7 @@ fn turn_of(s: Standing, held: usize, buffer: &mut [u8], out: &mut [u8]) -> Turn
 fn run(buffer: &mut [u8], out: &mut [u8])
     requires { ⌜ (129 < length (now buffer)) × (15 * length (now buffer) ≤ length (now out)) ⌝ }
 {
-    let mut s = start();
+    let mut s = at_start();
     let mut held = 0;
     let mut turns = u64::MAX;
     while 0 < turns {

@@ -5,7 +5,7 @@ use super::parts::part_fed;
 use super::words::size_of;
 use bytes::scan::find;
 use libc::STDOUT_FILENO;
-use session::start;
+use session::at_start;
 ghost use Prim.Native.Nat.{_≤_};
 ghost use lib.ListN.{length};
 
@@ -13,7 +13,7 @@ ghost use lib.ListN.{length};
 fn run(text: &[u8], first: usize, size: usize, buffer: &mut [u8], out: &mut [u8])
     requires { ⌜ (1 ≤ size) × (size ≤ 4096) × (4225 ≤ length (now buffer)) ⌝ }
 {
-    let mut s = start();
+    let mut s = at_start();
     let mut held = 0;
     let mut from = first;
     while from < text.len() {

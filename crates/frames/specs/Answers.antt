@@ -5,7 +5,7 @@ use mathlib.Core.List.{List, [], _∷_, _++_}
 use lib.Dec.{leb}
 use lib.ListN.{length, take, drop}
 use Rattle.rules.specs.declared.Answer.{Answer}
-use Rattle.frames.specs.Digits.{digits}
+use Rattle.digits.specs.Digits.{digits}
 use Rattle.lines.specs.Ends.{lineFeed}
 
 unfoldable pub answerLine : Answer → List ℕ

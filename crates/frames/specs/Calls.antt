@@ -1,13 +1,8 @@
 -- The call in a line: "caller 2 digits, operation 2, a, b, c 8 each (28 digits)".
 use Prim.Native.Nat.{ℕ}
 use mathlib.Core.List.{List}
-use lib.ListN.{take, drop}
 use Rattle.rules.specs.declared.Call.{Call}
-use Rattle.frames.specs.Digits.{value}
-
--- the number in the n digits from a place on
-unfoldable pub field : ℕ → ℕ → List ℕ → ℕ
-field n at line = value (take n (drop at line))
+use Rattle.digits.specs.Digits.{field}
 
 abbrev pub callLength : ℕ
 callLength = 28

@@ -1,5 +1,5 @@
 // The answer line, written where the caller has room for it.
-use crate::digits::put_digits;
+use digits::put_digits;
 use rules::Answer;
 ghost use mathlib.Core.Path.{_≡_};
 ghost use lib.ListN.{length};

@@ -1,6 +1,6 @@
 // The call in a line.
-use crate::digits::byte_at;
-use crate::digits::word_at;
+use digits::byte_at;
+use digits::word_at;
 use rules::Call;
 ghost use mathlib.Core.Path.{_≡_};
 ghost use Rattle.frames.specs.Calls.{callIn};

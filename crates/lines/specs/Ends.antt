@@ -1,9 +1,9 @@
 -- Where a line ends: "one frame a line, each ended by a line feed".
-use Prim.Native.Nat.{ℕ, _+_}
+use Prim.Native.Nat.{ℕ, _+_, _-_}
 use mathlib.Core.Bool.{cond}
 use mathlib.Core.List.{List}
 use lib.Dec.{eqb, ltb}
-use lib.ListN.{length, drop}
+use lib.ListN.{length, take, drop}
 use Rattle.rules.specs.Queues.{before}
 use Rattle.lines.specs.declared.ends.Line.{Line}
 use Rattle.lines.specs.declared.ends.Line.the-variants.{Whole, TooLong, Unended, Nothing}
@@ -29,3 +29,7 @@ lineIn at n rest =
 
 unfoldable pub lineAt : List ℕ → ℕ → Line
 lineAt s at = lineIn at (lineLength (drop at s)) (drop at s)
+
+-- the bytes from a place up to another
+abbrev pub part : ℕ → ℕ → List ℕ → List ℕ
+part from to bytes = take (to - from) (drop from bytes)

@@ -10,13 +10,15 @@ use lib.ListN.{length, take, drop, getD, set, length-take, length-drop}
 use lib.Seq.{take-suc, take-all, take-take, take-add, drop-at, drop-cons, length-take-le, set-at, getD-append-add, getD-drop}
 use borrow.Author.Tests.{le-leb, lt-leb, leb-true, leb-false}
 use Rattle.frames.specs.Answers.{answerLine, placed}
-use Rattle.frames.proofs.Parts.{answer-length}
-use Rattle.session.specs.declared.Standing.{Standing}
-use Rattle.session.specs.declared.Fed.{Fed}
+use Rattle.frames.proofs.Written.{answer-length}
+use Rattle.opening.specs.declared.Standing.{Standing}
+use Rattle.feeding.specs.declared.Fed.{Fed}
 use Rattle.session.specs.declared.Held.{Held}
-use Rattle.session.specs.Steps.{malformed}
-use Rattle.session.specs.Run.{onto, cut, stood, ending, kept}
-use Rattle.session.specs.Pieces.{fitting, taken, over, feedTold, pieceAnswers, pieceLeft, pieceTold, endingLength}
+use Rattle.bench_line.specs.Steps.{malformed}
+use Rattle.feeding.specs.Lines.{onto, cut, stood}
+use Rattle.feeding.specs.Feed.{fitting, taken, over, feedTold, pieceAnswers}
+use Rattle.session.specs.Run.{ending, kept}
+use Rattle.session.specs.Pieces.{pieceLeft, pieceTold, endingLength}
 
 -- ---- a part moved to the front
 

@@ -10,12 +10,31 @@ use lib.Seq.{take-all, take-append-le, take-take, length-take-le}
 use borrow.Author.Tests.{leb-true, leb-false}
 use Rattle.rules.specs.Queues.{before}
 use Rattle.lines.specs.Ends.{lineFeed, longest}
-use Rattle.session.specs.declared.Standing.{Standing}
-use Rattle.session.specs.Run.{Cut, cut, start, answered, stood, ending, runFrom, run, kept, joined, runParts}
-use Rattle.session.specs.Pieces.{pieceAnswers, pieceLeft, pieceTold}
-use Rattle.session.proofs.Cuts.{cut-unended, cut-rest, cut-append, cut-onto, unended-take, ontoAll}
-use Rattle.session.proofs.Alike.{answered-append, stood-append, long-alike}
+use Rattle.opening.specs.declared.Standing.{Standing}
+use Rattle.opening.specs.First.{start}
+use Rattle.bench_line.specs.Steps.{lineDone}
+use Rattle.bench_line.proofs.Called.{long-alike}
+use Rattle.frames.specs.Answers.{answerLine}
+use Rattle.feeding.specs.Lines.{Cut, cut, after, answered, stood}
+use Rattle.feeding.specs.Feed.{pieceAnswers}
+use Rattle.feeding.proofs.Cuts.{cut-unended, cut-rest, cut-append, cut-onto, unended-take, ontoAll}
+use Rattle.session.specs.Run.{ending, runFrom, run, kept, joined, runParts}
+use Rattle.session.specs.Pieces.{pieceLeft, pieceTold}
 use Rattle.session.proofs.Buffers.{fitting-all, left-all}
+
+-- ---- lines behind lines
+
+pub answered-append : (s : Standing) (ls ms : List (List ℕ)) → answered s (ls ++ ms) ≡ answered s ls ++ answered (stood s ls) ms
+unfolding answered stood
+answered-append s [] ms = refl
+answered-append s (l ∷ ls) ms = rw (answered-append (after s l) ls ms) (sym (append-assoc (answerLine (lineDone s l .answer)) (answered (after s l) ls) _))
+
+pub stood-append : (s : Standing) (ls ms : List (List ℕ)) → stood s (ls ++ ms) ≡ stood (stood s ls) ms
+unfolding stood
+stood-append s [] ms = refl
+stood-append s (l ∷ ls) ms = stood-append (after s l) ls ms
+
+-- ---- parts
 
 -- two ways to cut that write the same and leave the same to be kept
 pub record Same (s : Standing) (x y : Cut) : Type 0 where

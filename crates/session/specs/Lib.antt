@@ -1,4 +1,3 @@
--- What document 01 says of the bench: what one line does, the whole run, and the same run over parts of the input.
-pub mod Steps
+-- What document 01 says of the bench: the whole run, and the same run over parts of the input.
 pub mod Run
 pub mod Pieces

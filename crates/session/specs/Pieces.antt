@@ -1,76 +1,14 @@
--- A piece of the input, answered into a lent buffer: as many lines as it has room for.
-use Prim.Native.Nat.{ℕ, suc, _+_, _*_, _-_, _/_}
-use mathlib.Core.Bool.{Bool, cond}
-use mathlib.Core.List.{List, [], _∷_, _++_}
+-- A piece of the input, its answers in a lent buffer: what it leaves to the next, and the end of the input.
+use Prim.Native.Nat.{ℕ, _*_}
+use mathlib.Core.Bool.{cond}
+use mathlib.Core.List.{List}
 use lib.Dec.{leb}
-use lib.ListN.{length, take, drop}
-use Rattle.lines.specs.declared.ends.Line.{Line}
-use Rattle.lines.specs.declared.ends.Line.the-variants.{Whole, TooLong, Unended, Nothing}
-use Rattle.lines.specs.Ends.{lineAt}
-use Rattle.rules.specs.declared.Table.{Table}
-use Rattle.rules.specs.declared.Done.{Done}
-use Rattle.session.specs.declared.Standing.{Standing}
-use Rattle.session.specs.declared.turn.Turn.{Turn}
-use Rattle.session.specs.declared.Fed.{Fed}
+use lib.ListN.{length, drop}
+use Rattle.opening.specs.declared.Standing.{Standing}
+use Rattle.feeding.specs.Lines.{stood}
+use Rattle.feeding.specs.Feed.{answerLength, fitting, taken}
 use Rattle.session.specs.declared.Held.{Held}
-use Rattle.session.specs.Steps.{malformed, firstRefused, lineDone}
-use Rattle.session.specs.Run.{cut, answered, stood, ending, kept}
-
--- ---- the line that begins at a place
-
--- a line of over 128 bytes, whatever they are
-unfoldable pub tooLong : Standing → Done
-tooLong s = cond (s .begun) (malformed (s .table)) (firstRefused 21)
-
-abbrev pub turned : Done → ℕ → Turn
-turned d next = record { done = d; next = next }
-
--- the bytes from a place up to another
-abbrev pub part : ℕ → ℕ → List ℕ → List ℕ
-part from to input = take (to - from) (drop from input)
-
--- what the line does, and the place behind it; 0 where no line is ended, with what an unended line gets
-abbrev pub turnOf : Standing → List ℕ → Line → Turn
-turnOf s input (Whole from to next) = turned (lineDone s (part from to input)) next
-turnOf s input (TooLong next) = turned (tooLong s) next
-turnOf s input Unended = turned (malformed (s .table)) 0
-turnOf s input Nothing = turned (malformed (s .table)) 0
-
-unfoldable pub turnAt : Standing → List ℕ → ℕ → Turn
-turnAt s input at = turnOf s input (lineAt input at)
-
--- ---- the lines of a piece
-
--- an answer line has 15 bytes
-abbrev pub answerLength : ℕ
-answerLength = 15
-
--- the lines that are answered, where the buffer has so many bytes
-unfoldable pub fitting : ℕ → List ℕ → List (List ℕ)
-fitting room input = take (room / answerLength) (cut input .lines)
-
--- how many bytes the lines take, each with its line feed
-unfoldable pub taken : List (List ℕ) → ℕ
-taken [] = 0
-taken (line ∷ lines) = suc (length line) + taken lines
-
--- bytes written over the front of others
-abbrev pub over : List ℕ → List ℕ → List ℕ
-over bytes out = bytes ++ drop (length bytes) out
-
-unfoldable pub pieceAnswers : Standing → ℕ → List ℕ → List ℕ
-pieceAnswers s room input = answered s (fitting room input)
-
-abbrev pub fedAt : Table → Bool → ℕ → ℕ → Fed
-fedAt t begun next written = record { standing = record { table = t; begun = begun }; next = next; written = written }
-
-unfoldable pub feedTold : Standing → ℕ → List ℕ → Fed
-feedTold s room input =
-    record {
-      standing = stood s (fitting room input);
-      next = taken (fitting room input);
-      written = answerLength * length (fitting room input);
-    }
+use Rattle.session.specs.Run.{ending, kept}
 
 -- ---- the next piece's front: what this one leaves unended
 

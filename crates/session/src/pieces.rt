@@ -1,25 +1,16 @@
-// A run over the input piece by piece: the start, each piece, and the end.
+// A run over the input piece by piece: each piece, and the end.
 use crate::Held;
-use crate::Standing;
-use crate::ended::feed;
-use crate::first::zeros;
-use crate::steps::malformed;
+use bench_line::malformed_line;
+use feeding::feed;
 use frames::put_answer;
+use opening::Standing;
 ghost use mathlib.Core.Path.{_≡_};
 ghost use Prim.Native.Nat.{_+_, _≤_, min};
 ghost use lib.ListN.{length, take, drop};
 ghost use Rattle.frames.specs.Answers.{placed};
-ghost use Rattle.session.specs.Run as run;
-ghost use Rattle.session.specs.Pieces.{pieceTold, pieceLeft, pieceAnswers, over, endingLength};
-
-pub fn start() -> Standing
-    ensures { λ r. ⌜ r ≡ run.start ⌝ }
-{
-    Standing {
-        table: zeros(),
-        begun: false,
-    }
-}
+ghost use Rattle.feeding.specs.Feed.{pieceAnswers, over};
+ghost use Rattle.session.specs.Run.{ending};
+ghost use Rattle.session.specs.Pieces.{pieceTold, pieceLeft, endingLength};
 
 fn lesser(x: usize, y: usize) -> usize
     ensures { λ r. ⌜ r ≡ min x y ⌝ }
@@ -59,7 +50,7 @@ pub fn piece(s: Standing, buffer: &mut [u8], end: usize, out: &mut [u8]) -> Held
 // The end of the input: bytes that no line feed ended get one answer. Returns how many bytes were written.
 pub fn finish(s: Standing, rest: &[u8], out: &mut [u8]) -> usize
     ensures told { λ r. ⌜ r ≡ endingLength s (now (rest .entry)) (length (now (out .entry))) ⌝ }
-    ensures written { λ _. ⌜ now (out .exit) ≡ placed 0 (run.ending s (now (rest .entry))) (now (out .entry)) ⌝ }
+    ensures written { λ _. ⌜ now (out .exit) ≡ placed 0 (ending s (now (rest .entry))) (now (out .entry)) ⌝ }
 {
     if rest.len() == 0 {
         return 0;
@@ -68,7 +59,7 @@ pub fn finish(s: Standing, rest: &[u8], out: &mut [u8]) -> usize
         return 0;
     }
     let t = s.table;
-    let d = malformed(t);
+    let d = malformed_line(t);
     put_answer(out, 0, d.answer);
     15
 }

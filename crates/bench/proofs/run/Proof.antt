@@ -12,8 +12,8 @@ Inv-loop buffer₀ out₀ s₀ held₀ turns₀ buffer out s held turns = (held 
 abbrev μ-loop : tie.MeasureT-loop
 μ-loop buffer₀ out₀ s₀ held₀ turns₀ buffer out s held turns = turns
 
-start-requires : tie.Need-start-requires Inv-loop μ-loop
-start-requires c κs = search needs
+at-start-requires : tie.Need-at-start-requires Inv-loop μ-loop
+at-start-requires c κs = search needs
 
 loop-holds : tie.Need-loop-holds Inv-loop μ-loop
 loop-holds c = search needs
@@ -54,7 +54,7 @@ run-spec =
     (tie.spec
     Inv-loop
     μ-loop
-    start-requires
+    at-start-requires
     loop-holds
     turn-of-requires
     same-length

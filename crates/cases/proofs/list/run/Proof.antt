@@ -12,8 +12,8 @@ Inv-loop text first size buffer₀ out₀ s₀ held₀ from₀ buffer out s held
 abbrev μ-loop : tie.MeasureT-loop
 μ-loop text first size buffer₀ out₀ s₀ held₀ from₀ buffer out s held from = length text - from
 
-start-requires : tie.Need-start-requires Inv-loop μ-loop
-start-requires c κs = search needs
+at-start-requires : tie.Need-at-start-requires Inv-loop μ-loop
+at-start-requires c κs = search needs
 
 loop-holds : tie.Need-loop-holds Inv-loop μ-loop
 loop-holds c = search needs
@@ -60,7 +60,7 @@ run-spec =
     (tie.spec
     Inv-loop
     μ-loop
-    start-requires
+    at-start-requires
     loop-holds
     find-requires
     sub-part-fed

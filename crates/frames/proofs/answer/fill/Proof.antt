@@ -3,7 +3,7 @@ use borrow.Author.Needs.{needs}
 use mathlib.Core.Path.{_∙_, ap}
 use native.Mathlib.Omega.{arith}
 use lib.ListN.{length}
-use Rattle.frames.proofs.Parts.{answer-written, answer-length}
+use Rattle.frames.proofs.Written.{answer-written, answer-length}
 use Rattle.frames.proofs.answer.fill.Statement.{statement}
 use Rattle.frames.proofs.answer.fill.Tie as tie
 

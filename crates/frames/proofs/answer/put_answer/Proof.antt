@@ -1,6 +1,6 @@
 -- Where there is no room nothing changes; elsewhere the line comes back filled, between what stood before it and what stood behind it.
 use borrow.Author.Needs.{needs}
-use Rattle.frames.proofs.Parts.{placed-nowhere, placed-there, answer-length}
+use Rattle.frames.proofs.Written.{placed-nowhere, placed-there, answer-length}
 use Rattle.frames.proofs.answer.put_answer.Statement.{statement}
 use Rattle.frames.proofs.answer.put_answer.Tie as tie
 

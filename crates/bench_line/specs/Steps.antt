@@ -1,0 +1,38 @@
+-- What one line does: the table after it, and its answer.
+use Prim.Native.Nat.{ℕ}
+use mathlib.Core.Bool.{cond, _&&_}
+use mathlib.Core.List.{List}
+use lib.Dec.{eqb}
+use lib.ListN.{length}
+use Rattle.rules.specs.declared.Table.{Table}
+use Rattle.rules.specs.declared.Done.{Done}
+use Rattle.rules.specs.Numbers.{nobody}
+use Rattle.rules.specs.Words.{isZero}
+use Rattle.rules.specs.Step.{step}
+use Rattle.frames.specs.Calls.{callLength, callIn}
+use Rattle.opening.specs.declared.Standing.{Standing}
+use Rattle.opening.specs.First.{plain, firstRefused, firstLine}
+
+-- ---- a call line
+
+-- "a malformed line reports the stored elected task, or 255 with the zero table", which is the one with no task
+unfoldable pub malformed : Table → Done
+malformed t =
+    record {
+      table = t;
+      answer =
+          record { status = 21; value = 0; key = 0; elected = cond (isZero (t .tasks)) nobody (t .elected) };
+    }
+
+-- "gets 21 and no effect; so does a call line of another length"
+unfoldable pub callLine : Table → List ℕ → Done
+callLine t line = cond (plain line && eqb (length line) callLength) (step t (callIn line)) (malformed t)
+
+-- ---- any line, where `begun` says that it isn't the first
+
+-- a line of over 128 bytes, whatever they are
+unfoldable pub tooLong : Standing → Done
+tooLong s = cond (s .begun) (malformed (s .table)) (firstRefused 21)
+
+unfoldable pub lineDone : Standing → List ℕ → Done
+lineDone s line = cond (s .begun) (callLine (s .table) line) (firstLine line)

@@ -1,0 +1,2 @@
+-- What document 01 says of numbers in a line: upper-case hexadecimal.
+pub mod Digits

@@ -1,0 +1,155 @@
+-- Laws of a turn: it takes the first line of what is left, or there is none.
+use Prim.Native.Nat.{ℕ, suc, _+_, _-_, _<_, _≤_}
+use mathlib.Core.Path.{_≡_, refl, sym, ap, _∙_}
+use mathlib.Core.Bool.{Bool, true, false, cond}
+use mathlib.Core.List.{List, [], _∷_}
+use native.Mathlib.Omega.{arith}
+use lib.Dec.{eqb, ltb}
+use lib.ListN.{length, take, drop, length-drop}
+use lib.Seq.{drop-drop, length-take-le}
+use borrow.Author.Tests.{eqb-true, eqb-false, ltb-true}
+use Rattle.rules.specs.Queues.{before}
+use Rattle.rules.proofs.Retrieve.{before-le}
+use Rattle.lines.specs.declared.ends.Line.{Line}
+use Rattle.lines.specs.declared.ends.Line.the-variants.{Whole, TooLong, Unended, Nothing}
+use Rattle.lines.specs.Ends.{lineFeed, longest, lineIn, lineAt, part}
+use Rattle.rules.specs.declared.Done.{Done}
+use Rattle.opening.specs.declared.Standing.{Standing}
+use Rattle.feeding.specs.declared.turn.Turn.{Turn}
+use Rattle.bench_line.specs.Steps.{malformed, tooLong, lineDone}
+use Rattle.feeding.specs.Lines.{cut}
+use Rattle.feeding.specs.Feed.{turned, turnOf, turnAt}
+use Rattle.feeding.proofs.Cuts.{cut-ended, cut-unended}
+use Rattle.bench_line.proofs.Called.{too-long-done}
+
+-- r took a line
+pub record Took (s : Standing) (input : List ℕ) (at : ℕ) (r : Turn) : Type 0 where
+  pub line : List ℕ
+  pub ended : cut (drop at input) .lines ≡ line ∷ cut (drop (r .next) input) .lines
+  pub did : r .done ≡ lineDone s line
+  pub moved : r .next ≡ at + suc (length line)
+
+-- or there was none
+pub record Idle (input : List ℕ) (at : ℕ) (r : Turn) : Type 0 where
+  pub none : cut (drop at input) .lines ≡ []
+  pub still : r .next ≡ 0
+
+pub data Turning (s : Standing) (input : List ℕ) (at : ℕ) (r : Turn) : Type 0 where
+  took : Took s input at r → Turning s input at r
+  idle : Idle input at r → Turning s input at r
+
+module _ (s : Standing) (input : List ℕ) (at : ℕ) where
+  abbrev n : ℕ
+  n = before lineFeed (drop at input)
+
+  within : n ≤ length (drop at input)
+  within = before-le lineFeed (drop at input)
+
+  idle-turn : n ≡ length (drop at input) → Idle input at (turned (malformed (s .table)) 0)
+  idle-turn h = record { none = ap (λ c. c .lines) (cut-unended (drop at input) h); still = refl }
+
+  module _ (h : n < length (drop at input)) where
+    behind : drop (suc n) (drop at input) ≡ drop (at + n + 1) input
+    behind = let place : at + suc n ≡ at + n + 1 = omega arith in rw (drop-drop, place)
+
+    line-long : length (take n (drop at input)) ≡ n
+    line-long = length-take-le n (drop at input) (omega arith)
+
+    cut-here : cut (drop at input) .lines ≡ take n (drop at input) ∷ cut (drop (at + n + 1) input) .lines
+    cut-here = ap (λ c. c .lines) (cut-ended (drop at input) h) ∙ ap (λ xs. take n (drop at input) ∷ cut xs .lines) behind
+
+    moved-here : at + n + 1 ≡ at + suc (length (take n (drop at input)))
+    moved-here = rw line-long (omega arith)
+
+    whole-turn : Took s input at (turned (lineDone s (part at (at + n) input)) (at + n + 1))
+    whole-turn =
+        let same : at + n - at ≡ n = omega arith in
+        record { line = take n (drop at input); ended = cut-here; did = rw same; moved = moved-here }
+
+    long-turn : longest < n → Took s input at (turned (tooLong s) (at + n + 1))
+    long-turn k = record { line = take n (drop at input); ended = cut-here; did = too-long-done s (take n (drop at input)) (rw line-long k); moved = moved-here }
+
+  pub turning : Turning s input at (turnAt s input at)
+  unfolding turnAt lineAt lineIn
+  turning = go (eqb (length (drop at input)) 0) refl
+    where
+      ended : eqb n (length (drop at input)) ≡ false → (b : Bool) → ltb longest n ≡ b
+          → Turning s input at (turnOf s input (cond b (TooLong (at + n + 1)) (Whole at (at + n) (at + n + 1))))
+      ended e true k = took (long-turn (omega (arith, within, eqb-false n (length (drop at input)) e)) (ltb-true longest n k))
+      ended e false k = took (whole-turn (omega (arith, within, eqb-false n (length (drop at input)) e)))
+
+      some : (b : Bool) → eqb n (length (drop at input)) ≡ b
+          → Turning s input at (turnOf s input (cond b Unended (cond (ltb longest n) (TooLong (at + n + 1)) (Whole at (at + n) (at + n + 1)))))
+      some true e = idle (idle-turn (eqb-true n (length (drop at input)) e))
+      some false e = ended e (ltb longest n) refl
+
+      go : (b : Bool) → eqb (length (drop at input)) 0 ≡ b
+          → Turning s input at (turnOf s input (cond b Nothing (cond (eqb n (length (drop at input))) Unended (cond (ltb longest n) (TooLong (at + n + 1)) (Whole at (at + n) (at + n + 1))))))
+      go true e = idle (idle-turn (omega (arith, within, eqb-true (length (drop at input)) 0 e)))
+      go false e = some (eqb n (length (drop at input))) refl
+
+-- which of the two, by the place behind the line
+module _ (s : Standing) (input : List ℕ) (at : ℕ) (r : Turn) (e : r ≡ turnAt s input at) where
+  pub turn-took : (r .next ≡ 0 → ⊥) → Took s input at r
+  turn-took h = go (rw (← e) at (turning s input at))
+    where
+      go : Turning s input at r → Took s input at r
+      go (took t) = t
+      go (idle i) = absurd (h (i .still))
+
+  pub turn-none : r .next ≡ 0 → cut (drop at input) .lines ≡ []
+  turn-none h = go (rw (← e) at (turning s input at))
+    where
+      go : Turning s input at r → cut (drop at input) .lines ≡ []
+      go (took t) = absurd (omega (arith, t .moved))
+      go (idle i) = i .none
+
+-- ---- the turn that the code makes, by the line that it found
+
+-- a whole line and its line feed lie within the input
+pub record Within (input : List ℕ) (from to next : ℕ) : Type 0 where
+  pub ordered : from ≤ to
+  pub ended : to < next
+  pub inside : next ≤ length input
+
+module _ (input : List ℕ) (at from to next : ℕ) where
+  pub whole-within : (l : Line) → l ≡ lineAt input at → l ≡ Whole from to next → Within input from to next
+  unfolding lineAt lineIn
+  whole-within l e k = go (eqb (length rest) 0) (eqb here (length rest)) (ltb longest here) refl (sym e ∙ k)
+    where
+      rest : List ℕ
+      rest = drop at input
+
+      here : ℕ
+      here = before lineFeed rest
+
+      go : (none unended long : Bool) → eqb here (length rest) ≡ unended
+          → cond none Nothing (cond unended Unended (cond long (TooLong (at + here + 1)) (Whole at (at + here) (at + here + 1))))
+          ≡ Whole from to next
+          → Within input from to next
+      go true unended long h f = let z : _≡_ {A = ℕ} 0 1 = cc in absurd (omega arith)
+      go false true long h f = let z : _≡_ {A = ℕ} 0 1 = cc in absurd (omega arith)
+      go false false true h f = let z : _≡_ {A = ℕ} 0 1 = cc in absurd (omega arith)
+      go false false false h f =
+          let first : at ≡ from = cc in
+          let last : at + here ≡ to = cc in
+          let behind : at + here + 1 ≡ next = cc in
+          let some = eqb-false here (length rest) h in
+          record { ordered = omega arith; ended = omega arith; inside = omega (arith, before-le lineFeed rest, length-drop at input) }
+
+module _ (s : Standing) (input : List ℕ) (at : ℕ) (l : Line) (e : l ≡ lineAt input at) (d : Done) where
+  turn-of : (found : Line) → l ≡ found → turnOf s input found ≡ turnAt s input at
+  unfolding turnAt
+  turn-of found k = ap (turnOf s input) (sym k ∙ e)
+
+  pub turn-whole : (from to next : ℕ) → l ≡ Whole from to next → d ≡ lineDone s (part from to input) → turned d next ≡ turnAt s input at
+  turn-whole from to next k h = ap (λ x. turned x next) h ∙ turn-of (Whole from to next) k
+
+  pub turn-too-long : (next : ℕ) → l ≡ TooLong next → d ≡ tooLong s → turned d next ≡ turnAt s input at
+  turn-too-long next k h = ap (λ x. turned x next) h ∙ turn-of (TooLong next) k
+
+  pub turn-unended : l ≡ Unended → d ≡ malformed (s .table) → turned d 0 ≡ turnAt s input at
+  turn-unended k h = ap (λ x. turned x 0) h ∙ turn-of Unended k
+
+  pub turn-nothing : l ≡ Nothing → d ≡ malformed (s .table) → turned d 0 ≡ turnAt s input at
+  turn-nothing k h = ap (λ x. turned x 0) h ∙ turn-of Nothing k
