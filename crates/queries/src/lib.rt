@@ -73,7 +73,7 @@ fn arrived_status(ok: bool, elected: u8, caller: u8, list: u32, operator: u32) -
 }
 
 // A query is in no hurry, so the table is handed over whole.
-fn is_valid(t: Table) -> bool
+pub fn is_valid(t: Table) -> bool
     ensures { λ r. ⌜ r ≡ valid t ⌝ }
 {
     let timers = t.timers;

@@ -11,7 +11,7 @@ use Rattle.rules.specs.Step.{step}
 use Rattle.rules.proofs.Refusals.{None, accepted-none}
 use Rattle.theorems.specs.Refused.{One, OneAnswer, FirstIs, RefusedExactly, AcceptedExactly, RefusedDone}
 
-one {ℓ} : {A : Type ℓ} (x : A) → One {A = A} (λ d. d ≡ x)
+pub one {ℓ} : {A : Type ℓ} (x : A) → One {A = A} (λ d. d ≡ x)
 one x = (x, refl, λ e h. h)
 
 pub one-answer : OneAnswer

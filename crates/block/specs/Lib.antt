@@ -1,0 +1,4 @@
+-- The table in a block of bytes: the layout, and the three calls on a block.
+pub mod Layout
+pub mod Groups
+pub mod Calls

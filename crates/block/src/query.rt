@@ -1,0 +1,48 @@
+// The queries by number.
+use executive::arrived;
+use executive::empty;
+use executive::full;
+use executive::priority;
+use executive::state;
+use queries::is_valid;
+use rules::Answer;
+use rules::Table;
+ghost use mathlib.Core.Path.{_≡_};
+ghost use mathlib.Core.Bool.{cond};
+ghost use Rattle.rules.specs.Validity.{valid};
+ghost use Rattle.rules.specs.Answers.{replied};
+ghost use Rattle.block.specs.Calls.{queryOrTen, notATable};
+
+// What a number above 4 gets: 10 comes before 11.
+fn unknown_query(t: Table) -> Answer
+    ensures { λ r. ⌜ r ≡ cond (valid t) (replied t 11 0) notATable ⌝ }
+{
+    if is_valid(t) {
+        return Answer {
+            status: 11,
+            value: 0,
+            key: 0,
+            elected: t.elected,
+        };
+    }
+    Answer {
+        status: 10,
+        value: 0,
+        key: 0,
+        elected: 255,
+    }
+}
+
+// 0 ARRIVED, 1 EMPTY, 2 FULL, 3 PRIORITY, 4 STATE.
+pub(crate) fn query_of(t: Table, query: u8, caller: u8, a: u32, b: u32) -> Answer
+    ensures { λ r. ⌜ r ≡ queryOrTen t query caller a b ⌝ }
+{
+    match query {
+        0 => arrived(t, caller, a, b),
+        1 => empty(t, a),
+        2 => full(t, a),
+        3 => priority(t, a),
+        4 => state(t, a),
+        _ => unknown_query(t),
+    }
+}

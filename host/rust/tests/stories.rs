@@ -1,0 +1,127 @@
+//! Document 01's examples through the typed calls; the answers are those that host/firmware.c expects from C.
+use tankwesho::{
+    Answer, Block, Criterion, Delay, Event, EventList, Operation, Operator, Outside, Query, Queue, Region, Status, Task, Timer, Wanted,
+};
+
+fn task(number: u8) -> Task {
+    Task::new(number).unwrap()
+}
+
+fn event(number: u8) -> Event {
+    Event::new(number).unwrap()
+}
+
+fn answer(status: Status, elected: Option<u8>) -> Answer {
+    Answer { status, elected: elected.map(task), key: 0, value: 0 }
+}
+
+const NO_TASK: Option<u8> = None;
+
+/// "Each starts fresh: priorities 5, 5, 2, two regions, one queue of bound 2."
+fn example() -> Block {
+    Block::fresh(2, &[5, 5, 2], &[2]).unwrap()
+}
+
+fn queue() -> Queue {
+    Queue::new(0).unwrap()
+}
+
+/// "ENTER 0, START 2: elected 0; EXIT 0: elected 2."
+#[test]
+fn p2() {
+    let (mut block, region) = (example(), Region::new(0).unwrap());
+    assert_eq!(block.call(task(0), Operation::Enter { region }), answer(Status::Done, Some(0)));
+    assert_eq!(block.call(task(0), Operation::Start { task: task(2) }), answer(Status::Done, Some(0)));
+    assert_eq!(block.call(task(0), Operation::End), answer(Status::InRegion, Some(0)));
+    assert_eq!(block.call(task(0), Operation::Exit { region }), answer(Status::Done, Some(2)));
+}
+
+/// "WAIT list 3 all: status 1, elected 255. Outside SIGNAL 0 to task 0: still 255; SIGNAL 1: elected 0, events 3."
+#[test]
+fn p3() {
+    let mut block = example();
+    let (list, operator) = (EventList::from(event(0)).and(event(1)), Operator::All);
+    let signal = |number| Outside::Signal { event: event(number), task: task(0) };
+    assert_eq!(block.call(task(0), Operation::Wait { list, operator }), answer(Status::Waits, NO_TASK));
+    assert_eq!(block.query(Query::State { task: task(0) }), Answer { value: 2, ..answer(Status::Done, NO_TASK) });
+    assert_eq!(block.outside(signal(0)), answer(Status::Done, NO_TASK));
+    assert_eq!(block.outside(signal(1)), answer(Status::Done, Some(0)));
+    let arrived = Query::Arrived { caller: task(0), list, operator };
+    assert_eq!(block.query(arrived), Answer { value: 1, ..answer(Status::Done, Some(0)) });
+    assert_eq!(block.call(task(0), Operation::Clear { list }), answer(Status::Done, Some(0)));
+    assert_eq!(block.query(arrived), answer(Status::Done, Some(0)));
+}
+
+/// "SEND (11, 3), (12, 9): 0; (13, 3): 17. RETRIEVE 16: 12, key 9. RETRIEVE 3: 11. Again: 18."
+#[test]
+fn p4() {
+    let mut block = example();
+    let criterion = |number| Criterion::new(number).unwrap();
+    let send = |element, number| Operation::Send { queue: queue(), element, criterion: criterion(number) };
+    let retrieve = |wanted| Operation::Retrieve { queue: queue(), wanted };
+    assert_eq!(block.query(Query::Empty { queue: queue() }).value, 1);
+    assert_eq!(block.call(task(0), send(11, 3)), answer(Status::Done, Some(0)));
+    assert_eq!(block.call(task(0), send(12, 9)), answer(Status::Done, Some(0)));
+    assert_eq!(block.query(Query::Full { queue: queue() }).value, 1);
+    assert_eq!(block.call(task(0), send(13, 3)), answer(Status::QueueAtBound, Some(0)));
+    assert_eq!(block.call(task(0), retrieve(Wanted::Largest)), Answer { value: 12, key: 9, ..answer(Status::Done, Some(0)) });
+    let third = retrieve(Wanted::Of(criterion(3)));
+    assert_eq!(block.call(task(0), third), Answer { value: 11, key: 3, ..answer(Status::Done, Some(0)) });
+    assert_eq!(block.call(task(0), third), answer(Status::NoneFits, Some(0)));
+}
+
+/// T-01: "It then signals its task's event and is disarmed"; "a timer that another task has armed gets 15"; STOP disarms.
+#[test]
+fn timers() {
+    let mut block = example();
+    let (timer, list) = (Timer::new(15).unwrap(), EventList::from(event(4)));
+    let arm = Operation::Arm { timer, event: event(4), delay: Delay::new(2).unwrap() };
+    assert_eq!(block.call(task(0), arm), answer(Status::Done, Some(0)));
+    assert_eq!(block.call(task(0), Operation::Wait { list, operator: Operator::Any }), answer(Status::Waits, NO_TASK));
+    assert_eq!(block.outside(Outside::Tick), answer(Status::Done, NO_TASK));
+    assert_eq!(block.outside(Outside::Tick), answer(Status::Done, Some(0)));
+    assert_eq!(block.call(task(0), arm), answer(Status::Done, Some(0)));
+    assert_eq!(block.call(task(0), Operation::Start { task: task(2) }), answer(Status::Done, Some(2)));
+    assert_eq!(block.call(task(2), arm), answer(Status::WrongState, Some(2)));
+    assert_eq!(block.call(task(2), Operation::Stop { task: task(0) }), answer(Status::Done, Some(2)));
+    assert_eq!(block.call(task(2), arm), answer(Status::Done, Some(2)));
+    assert_eq!(block.call(task(2), Operation::Disarm { timer }), answer(Status::Done, Some(2)));
+}
+
+/// What exists as a type and not in this block is refused, and a refusal changes nothing.
+#[test]
+fn refusals_change_nothing() {
+    let mut block = example();
+    let before = block.clone();
+    let refused = [
+        (0, Operation::Start { task: task(3) }, Status::Missing),
+        (0, Operation::Start { task: task(0) }, Status::WrongState),
+        (0, Operation::Stop { task: task(1) }, Status::WrongState),
+        (0, Operation::Signal { event: event(15), task: task(31) }, Status::Missing),
+        (0, Operation::Enter { region: Region::new(2).unwrap() }, Status::Missing),
+        (0, Operation::Retrieve { queue: Queue::new(1).unwrap(), wanted: Wanted::Largest }, Status::Missing),
+        (1, Operation::End, Status::NotElected),
+        (31, Operation::End, Status::NotElected),
+    ];
+    for (caller, operation, status) in refused {
+        assert_eq!(block.call(task(caller), operation), answer(status, Some(0)));
+        assert_eq!(block, before);
+    }
+    assert_eq!(block.outside(Outside::Signal { event: event(0), task: task(1) }), answer(Status::WrongState, Some(0)));
+    assert_eq!(block.query(Query::Priority { task: task(3) }), answer(Status::Missing, Some(0)));
+    assert_eq!(block, before);
+}
+
+#[test]
+fn configurations() {
+    assert_eq!(Block::fresh(2, &[], &[2]), Err(Status::BadConfiguration));
+    assert_eq!(Block::fresh(2, &[5; 33], &[2]), Err(Status::BadConfiguration));
+    assert_eq!(Block::fresh(17, &[5], &[2]), Err(Status::BadConfiguration));
+    assert_eq!(Block::fresh(2, &[5], &[0]), Err(Status::BadConfiguration));
+    assert_eq!(Block::fresh(2, &[5], &[1; 9]), Err(Status::BadConfiguration));
+    // 256 and 257 entries are not 0 and 1 of them.
+    assert_eq!(Block::fresh(2, &[5; 257], &[2]), Err(Status::BadConfiguration));
+    assert_eq!(Block::fresh(2, &[5], &[1; 256]), Err(Status::BadConfiguration));
+    assert!(Block::fresh(16, &[255; 32], &[64; 8]).is_ok());
+    assert!(Block::fresh(0, &[0], &[]).is_ok());
+}
