@@ -5,7 +5,8 @@
 #include "expect.h"
 
 enum { REGIONS = 1, QUEUES = 2, ELECTED = 3, PRIORITY = 4, STATE = 36, ARRIVED = 68, LIST = 132, OPERATOR = 196, HOLDER = 228,
-       BOUND = 244, LENGTH = 252, ELEMENT = 260, CRITERION = 2308, TICKS = 2820, TIMER = 2824, UNUSED = 3, DATE = 4, TIMER_WIDTH = 8 };
+       ENTRIES = 244, BOUND = 260, LENGTH = 268, ELEMENT = 276, CRITERION = 2324, TICKS = 2836, TIMER = 2840, UNUSED = 3, DATE = 4,
+       TIMER_WIDTH = 8 };
 
 static uint8_t expected[SIZE];
 
@@ -72,7 +73,8 @@ static void fresh_blocks(void)
 
 /* ---- a block of known bytes */
 
-/* Every operation but END, and every kind of part in use: task 0 holds regions 0 and 2, task 1 waits, task 2 is ready, task 3 is stopped. */
+/* Every operation but END, and every kind of part in use: task 0 holds regions 0 and 2, which it has entered once and twice, task 1
+   waits, task 2 is ready, task 3 is stopped. */
 static void busy_block(void)
 {
     static const uint8_t priority[] = {5, 5, 2, 7};
@@ -93,7 +95,10 @@ static void busy_block(void)
     CALL(0, ENTER, 0, 0, 0, 0, 0);
     CALL(0, ENTER, 1, 0, 0, 0, 0);
     CALL(0, ENTER, 2, 0, 0, 0, 0);
+    CALL(0, ENTER, 2, 0, 0, 0, 0);
+    CALL(0, ENTER, 2, 0, 0, 0, 0);
     CALL(0, EXIT, 1, 0, 0, 0, 0);
+    CALL(0, EXIT, 2, 0, 0, 0, 0);
     CALL(0, START, 2, 0, 0, 0, 0);
     CALL(0, SIGNAL, 3, 2, 0, 0, 0);
     CALL(0, SEND, 0, 99, 15, 0, 0);
@@ -115,6 +120,7 @@ static void busy_bytes(void)
     memcpy(expected + ARRIVED, "\0\2" "\1\0" "\10\0", 6);
     memcpy(expected + LIST, "\0\0" "\3\1", 4);
     memcpy(expected + HOLDER, "\1\0\1", 3);
+    memcpy(expected + ENTRIES, "\1\0\2", 3);
     memcpy(expected + BOUND, "\3\2", 2);
     expected[LENGTH] = 2;
     memcpy(expected + ELEMENT, "\4\3\2\1" "\320\300\260\240", 8);
@@ -142,7 +148,7 @@ static const struct allowed in_busy[] = {
     {STATE + 3, STATE + 3, 0, 1},                         /* the stopped task made ready */
     {ARRIVED, ARRIVED + 5, 0, 255},                       /* events of tasks that aren't stopped; task 1's condition is met by no one byte */
     {LIST + 2, LIST + 3, 0, 255},                         /* task 1 waits for others, and not all of them have arrived */
-    {HOLDER, HOLDER + 2, 0, 1},                           /* "All occupied regions have the same holder": task 0 of some, never of none */
+    {ENTRIES, ENTRIES, 1, 255}, {ENTRIES + 2, ENTRIES + 2, 1, 255}, /* "1 to 255" where there is a holder; no holder changes alone */
     {BOUND, BOUND, 2, 64}, {BOUND + 1, BOUND + 1, 1, 64}, /* no less than the length */
     {LENGTH, LENGTH, 2, 3}, {LENGTH + 1, LENGTH + 1, 0, 2}, /* elements 0 of criterion 0, up to the bound */
     {ELEMENT, ELEMENT + 7, 0, 255},                       /* any elements of the two there are */
@@ -162,7 +168,6 @@ static const struct allowed in_free[] = {
     {PRIORITY + 2, PRIORITY + 2, 0, 4},   /* with 5 task 0 would be elected */
     {STATE, STATE + 1, 0, 1},             /* another task stopped */
     {ARRIVED, ARRIVED + 5, 0, 255},
-    {HOLDER, HOLDER + 1, 0, 0}, {HOLDER, HOLDER + 1, 3, 3}, /* held by task 2, which is elected */
     {BOUND, BOUND, 1, 64},
     {LENGTH, LENGTH, 0, 2},
     {TICKS, TICKS + 3, 0, 255},           /* no timer is armed */
@@ -194,6 +199,26 @@ static void each_byte_changed(const struct allowed *rows, int count)
         }
         block[place] = kept;
     }
+}
+
+/* A region's holder and count set to every pair: "a region counts its entries, 1 to 255", "A free region has count 0", and of holders the
+   elected task alone will do. Past the number of regions both are 0. */
+static void each_pair_of_region(int region)
+{
+    unsigned elected = block[ELECTED];
+    uint8_t kept_holder = block[HOLDER + region], kept_count = block[ENTRIES + region];
+    for (unsigned holder = 0; holder < 256; holder++)
+        for (unsigned count = 0; count < 256; count++) {
+            int held = region < block[REGIONS] && holder == elected + 1 && count > 0;
+            int valid = held || (holder == 0 && count == 0);
+            char where[80];
+            snprintf(where, sizeof where, "%s, region %d with holder %u and count %u", HERE, region, holder, count);
+            block[HOLDER + region] = (uint8_t)holder;
+            block[ENTRIES + region] = (uint8_t)count;
+            call_at(where, OUTSIDE, 13, 0, 0, 0, valid ? 11 : 10, valid ? elected : NOBODY, 0, 0);
+        }
+    block[HOLDER + region] = kept_holder;
+    block[ENTRIES + region] = kept_count;
 }
 
 static void damaged(const char *where, int place, unsigned value)
@@ -238,11 +263,17 @@ static void packed_and_damaged(void)
     group_was_right("a busy block, byte by byte");
     each_byte_changed(in_busy, sizeof in_busy / sizeof *in_busy);
     group_was_right("every byte of it changed");
+    for (int region = 0; region < 4; region++)
+        each_pair_of_region(region);
+    group_was_right("every holder and count of its three regions, and of one more");
     fresh_example();
     CALL(0, START, 1, 0, 0, 0, 0);
     CALL(0, START, 2, 0, 0, 0, 2);
     each_byte_changed(in_free, sizeof in_free / sizeof *in_free);
     group_was_right("every byte of a block without held regions changed");
+    for (int region = 0; region < 16; region++)
+        each_pair_of_region(region);
+    group_was_right("every holder and count of its two regions, and past them");
 
     /* "A block … not a valid table gets 10 and isn't touched", whatever is called, and before 11, 12, 13 and 14. */
     block[TIMER + UNUSED] = 1;
@@ -270,11 +301,13 @@ static void counter_starts_again(void)
     group_was_right("the counter starts again at 0");
 }
 
-/* "A block of wrong size … gets 10 and isn't touched": whatever stands in it, and whatever is asked. */
+/* "A block of wrong size … gets 10 and isn't touched": whatever stands in it, and whatever is asked. So does the size before T-04, when
+   regions had no counts. */
 static void other_sizes(void)
 {
+    enum { BEFORE_T_04 = 2952 };
     static uint8_t room[2 * SIZE], before[2 * SIZE];
-    static const size_t sizes[] = {0, 1, 3, 4, SIZE / 2, SIZE - 8, SIZE - 1, SIZE + 1, SIZE + 8, SIZE + 16, 2 * SIZE};
+    static const size_t sizes[] = {0, 1, 3, 4, SIZE / 2, BEFORE_T_04, SIZE - 8, SIZE - 1, SIZE + 1, SIZE + 8, SIZE + 16, 2 * SIZE};
     fresh_example();
     memcpy(room, block, SIZE);
     memcpy(before, room, sizeof room);

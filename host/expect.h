@@ -40,6 +40,9 @@ void fresh_example(void);
     call_at(HERE, caller, TANKWESHO_RETRIEVE, queue, 0, c, 0, elected, element, criterion)
 #define QUERY(query, caller, a, b, status, elected, value) query_at(HERE, TANKWESHO_##query, caller, a, b, status, elected, value)
 
+/* host/entries.c: T-04, the entries of a region. */
+void try_entries(void);
+
 /* host/blocks.c: blocks made fresh, packed, damaged, and of other sizes. */
 void try_blocks(void);
 

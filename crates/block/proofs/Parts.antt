@@ -14,7 +14,7 @@ use Rattle.rules.specs.Numbers.{taskRoom, regionRoom, queueRoom, storeSize, tim
 use Rattle.packing.specs.Bytes.{bytes, spread, over, taken, put}
 use Rattle.packing.specs.Timers.{timerWidth, timersBytes, timersTaken, timersPut}
 use Rattle.packing.proofs.RoundTrips.{spread-length, timers-length}
-use Rattle.block.specs.Layout.{priorityPlace, statePlace, arrivedPlace, listPlace, operatorPlace, holderPlace, boundPlace, lengthPlace, elementPlace, criterionPlace, ticksPlace, timersPlace, blockSize, part, unpacked, packed}
+use Rattle.block.specs.Layout.{priorityPlace, statePlace, arrivedPlace, listPlace, operatorPlace, holderPlace, entriesPlace, boundPlace, lengthPlace, elementPlace, criterionPlace, ticksPlace, timersPlace, blockSize, part, unpacked, packed}
 use Rattle.block.specs.Groups.{columnsPut, queuesPut}
 
 -- ---- a block of the right size, cut at its size
@@ -46,13 +46,14 @@ module _ (block : List ℕ) (size : length block ≡ blockSize) where
   unfolding timersTaken unpacked
   filled-timers rs e = e ∙ rw size
 
-  pub unpacked-is : (priority state arrived list operator holder bound lengths element criterion ticks : List ℕ) (timers : List Timer)
+  pub unpacked-is : (priority state arrived list operator holder entries bound lengths element criterion ticks : List ℕ) (timers : List Timer)
       → priority ≡ taken 1 priorityPlace block (replicate taskRoom 0)
       → state ≡ taken 1 statePlace block (replicate taskRoom 0)
       → arrived ≡ taken 2 arrivedPlace block (replicate taskRoom 0)
       → list ≡ taken 2 listPlace block (replicate taskRoom 0)
       → operator ≡ taken 1 operatorPlace block (replicate taskRoom 0)
       → holder ≡ taken 1 holderPlace block (replicate regionRoom 0)
+      → entries ≡ taken 1 entriesPlace block (replicate regionRoom 0)
       → bound ≡ taken 1 boundPlace block (replicate queueRoom 0)
       → lengths ≡ taken 1 lengthPlace block (replicate queueRoom 0)
       → element ≡ taken 4 elementPlace block (replicate storeSize 0)
@@ -70,6 +71,7 @@ module _ (block : List ℕ) (size : length block ≡ blockSize) where
         list = list;
         operator = operator;
         holder = holder;
+        entries = entries;
         bound = bound;
         length = lengths;
         element = element;
@@ -79,7 +81,7 @@ module _ (block : List ℕ) (size : length block ≡ blockSize) where
       }
       ≡ unpacked block
   unfolding unpacked
-  unpacked-is priority state arrived list operator holder bound lengths element criterion ticks timers a b c d e f g h i j k l =
+  unpacked-is priority state arrived list operator holder entries bound lengths element criterion ticks timers a b c d e f n g h i j k l =
       λ x.
       record {
         tasks = getD block 0 0;
@@ -92,6 +94,7 @@ module _ (block : List ℕ) (size : length block ≡ blockSize) where
         list = filled listPlace 2 taskRoom list refl d x;
         operator = filled operatorPlace 1 taskRoom operator refl e x;
         holder = filled holderPlace 1 regionRoom holder refl f x;
+        entries = filled entriesPlace 1 regionRoom entries refl n x;
         bound = filled boundPlace 1 queueRoom bound refl g x;
         length = filled lengthPlace 1 queueRoom lengths refl h x;
         element = filled elementPlace 4 storeSize element refl i x;
@@ -164,6 +167,7 @@ pub record Sized (t : Table) : Type 0 where
   pub list-long : length (t .list) ≡ taskRoom
   pub operator-long : length (t .operator) ≡ taskRoom
   pub holder-long : length (t .holder) ≡ regionRoom
+  pub entries-long : length (t .entries) ≡ regionRoom
   pub bound-long : length (t .bound) ≡ queueRoom
   pub length-long : length (t .length) ≡ queueRoom
   pub element-long : length (t .element) ≡ storeSize
@@ -185,7 +189,7 @@ one-word n = append-nil (bytes 4 n)
 pub packed-is : (t : Table) (old b0 b1 b2 b3 b4 : List ℕ) → Sized t → length old ≡ blockSize
     → b0 ≡ put 1 0 (t .tasks ∷ t .regions ∷ t .queues ∷ t .elected ∷ []) old
     → b1 ≡ columnsPut (t .priority) (t .state) (t .arrived) (t .list) (t .operator) b0
-    → b2 ≡ queuesPut (t .holder) (t .bound) (t .length) (t .element) (t .criterion) b1
+    → b2 ≡ queuesPut (t .holder) (t .entries) (t .bound) (t .length) (t .element) (t .criterion) b1
     → b3 ≡ put 4 ticksPlace (t .ticks ∷ []) b2
     → b4 ≡ timersPut timersPlace (t .timers) b3
     → (b4 ≡ packed t) × (length b4 ≡ length old)
@@ -199,7 +203,8 @@ packed-is t old b0 b1 b2 b3 b4 s size c0 c1 c2 c3 c4 =
     let list = column-next old size listPlace 2 taskRoom (t .list) _ arrived (s .list-long) refl refl in
     let operator = column-next old size operatorPlace 1 taskRoom (t .operator) b1 list (s .operator-long) refl c1 in
     let holder = column-next old size holderPlace 1 regionRoom (t .holder) _ operator (s .holder-long) refl refl in
-    let bound = column-next old size boundPlace 1 queueRoom (t .bound) _ holder (s .bound-long) refl refl in
+    let entries = column-next old size entriesPlace 1 regionRoom (t .entries) _ holder (s .entries-long) refl refl in
+    let bound = column-next old size boundPlace 1 queueRoom (t .bound) _ entries (s .bound-long) refl refl in
     let lengths = column-next old size lengthPlace 1 queueRoom (t .length) _ bound (s .length-long) refl refl in
     let element = column-next old size elementPlace 4 storeSize (t .element) _ lengths (s .element-long) refl refl in
     let criterion = column-next old size criterionPlace 1 storeSize (t .criterion) b2 element (s .criterion-long) refl c2 in

@@ -31,8 +31,11 @@ operatorPlace = listPlace + 2 * taskRoom
 abbrev pub holderPlace : ℕ
 holderPlace = operatorPlace + taskRoom
 
+abbrev pub entriesPlace : ℕ
+entriesPlace = holderPlace + regionRoom
+
 abbrev pub boundPlace : ℕ
-boundPlace = holderPlace + regionRoom
+boundPlace = entriesPlace + regionRoom
 
 abbrev pub lengthPlace : ℕ
 lengthPlace = boundPlace + queueRoom
@@ -49,7 +52,7 @@ ticksPlace = criterionPlace + storeSize
 abbrev pub timersPlace : ℕ
 timersPlace = ticksPlace + 4
 
--- "one stated size": 2952 bytes
+-- "one stated size": 2968 bytes
 abbrev pub blockSize : ℕ
 blockSize = timersPlace + timerWidth * timerRoom
 
@@ -72,6 +75,7 @@ unpacked block =
       list = part listPlace 2 taskRoom block;
       operator = part operatorPlace 1 taskRoom block;
       holder = part holderPlace 1 regionRoom block;
+      entries = part entriesPlace 1 regionRoom block;
       bound = part boundPlace 1 queueRoom block;
       length = part lengthPlace 1 queueRoom block;
       element = part elementPlace 4 storeSize block;
@@ -93,6 +97,7 @@ packed t =
     ++ spread 2 (t .list)
     ++ spread 1 (t .operator)
     ++ spread 1 (t .holder)
+    ++ spread 1 (t .entries)
     ++ spread 1 (t .bound)
     ++ spread 1 (t .length)
     ++ spread 4 (t .element)

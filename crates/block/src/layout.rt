@@ -31,7 +31,9 @@ const OPERATOR: usize = LIST + 2 * TASKS;
 
 const HOLDER: usize = OPERATOR + TASKS;
 
-const BOUND: usize = HOLDER + REGIONS;
+const ENTRIES: usize = HOLDER + REGIONS;
+
+const BOUND: usize = ENTRIES + REGIONS;
 
 const LENGTH: usize = BOUND + QUEUES;
 
@@ -76,6 +78,8 @@ pub(crate) fn unpack(block: &[u8]) -> Table
     take_bytes(whole, OPERATOR, &mut operator);
     let mut holder = [0u8; REGIONS];
     take_bytes(whole, HOLDER, &mut holder);
+    let mut entries = [0u8; REGIONS];
+    take_bytes(whole, ENTRIES, &mut entries);
     let mut bound = [0u8; QUEUES];
     take_bytes(whole, BOUND, &mut bound);
     let mut lengths = [0u8; QUEUES];
@@ -87,22 +91,28 @@ pub(crate) fn unpack(block: &[u8]) -> Table
     let mut ticks = [0u32; 1];
     take_words(whole, TICKS, &mut ticks);
     let timers = timers_at(whole, TIMER);
+    let tasks = whole[0];
+    let regions = whole[1];
+    let queues = whole[2];
+    let elected = whole[3];
+    let counter = ticks[0];
     Table {
-        tasks: whole[0],
-        regions: whole[1],
-        queues: whole[2],
-        elected: whole[3],
+        tasks: tasks,
+        regions: regions,
+        queues: queues,
+        elected: elected,
         priority: priority,
         state: state,
         arrived: arrived,
         list: list,
         operator: operator,
         holder: holder,
+        entries: entries,
         bound: bound,
         length: lengths,
         element: element,
         criterion: criterion,
-        ticks: ticks[0],
+        ticks: counter,
         timers: timers,
     }
 }
@@ -129,14 +139,16 @@ fn put_columns<'a>(
 fn put_queues<'a>(
     block: &mut [u8],
     holder: &'a [u8],
+    entries: &'a [u8],
     bound: &'a [u8],
     lengths: &'a [u8],
     element: &'a [u32],
     criterion: &'a [u8],
 )
-    ensures { λ _. ⌜ now (block .exit) ≡ queuesPut (now (holder .entry)) (now (bound .entry)) (now (lengths .entry)) (now (element .entry)) (now (criterion .entry)) (now (block .entry)) ⌝ }
+    ensures { λ _. ⌜ now (block .exit) ≡ queuesPut (now (holder .entry)) (now (entries .entry)) (now (bound .entry)) (now (lengths .entry)) (now (element .entry)) (now (criterion .entry)) (now (block .entry)) ⌝ }
 {
     put_bytes(block, HOLDER, holder);
+    put_bytes(block, ENTRIES, entries);
     put_bytes(block, BOUND, bound);
     put_bytes(block, LENGTH, lengths);
     put_words(block, ELEMENT, element);
@@ -161,6 +173,7 @@ pub(crate) fn pack(t: Table, block: &mut [u8])
     put_queues(
         whole,
         &t.holder,
+        &t.entries,
         &t.bound,
         &t.length,
         &t.element,

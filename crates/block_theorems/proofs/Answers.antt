@@ -66,17 +66,17 @@ answer-fits t status value key h s v k =
     shown _ (lt-ltb status byteEnd s, (reported-fits t status h, (lt-ltb key byteEnd k, (lt-ltb value wordEnd v, tt))))
 
 abbrev lowStatus : Reason → Bool
-lowStatus r = ltb (r .status) 20
+lowStatus r = ltb (r .status) byteEnd
 
-first-low : (rs : List Reason) → every lowStatus rs ≡ true → first rs < 20
+first-low : (rs : List Reason) → every lowStatus rs ≡ true → first rs < byteEnd
 first-low [] h = omega arith
 first-low (r ∷ rs) h = go (r .applies) refl (first-low rs (every-tail lowStatus r rs h))
   where
-    go : (b : Bool) → r .applies ≡ b → first rs < 20 → first (r ∷ rs) < 20
-    go true e ih = rw e (ltb-true (r .status) 20 (every-head lowStatus r rs h))
+    go : (b : Bool) → r .applies ≡ b → first rs < byteEnd → first (r ∷ rs) < byteEnd
+    go true e ih = rw e (ltb-true (r .status) byteEnd (every-head lowStatus r rs h))
     go false e ih = rw e ih
 
-pub refusal-low : (t : Table) (c : Call) → refusal t c < 20
+pub refusal-low : (t : Table) (c : Call) → refusal t c < byteEnd
 unfolding refusal reasons every
 refusal-low t c = first-low (reasons t c) refl
 
@@ -97,18 +97,18 @@ module _ (t : Table) (v : valid t ≡ true) (h : elementsInRange t ≡ true) whe
       go false z = let l = refusal-low t c in rw z (answer-fits t (refusal t c) 0 0 (fit .elected) (omega arith) (omega arith) (omega arith))
 
   -- a query's reply, 0 where it is refused
-  reply-fits : (status value : ℕ) → status < 20 → value < wordEnd → answerInRange (replied t status value) ≡ true
+  reply-fits : (status value : ℕ) → status < byteEnd → value < wordEnd → answerInRange (replied t status value) ≡ true
   reply-fits status value l k = answer-fits t status _ 0 (fit .elected) (omega arith) (small (isZero status)) (omega arith)
     where
       small : (b : Bool) → cond b value 0 < wordEnd
       small true = k
       small false = omega arith
 
-  object-low : (count i : ℕ) → first (objectReasons t count i) < 20
+  object-low : (count i : ℕ) → first (objectReasons t count i) < byteEnd
   unfolding objectReasons every
   object-low count i = first-low (objectReasons t count i) refl
 
-  arrived-low : (caller list operator : ℕ) → first (arrivedReasons t caller list operator) < 20
+  arrived-low : (caller list operator : ℕ) → first (arrivedReasons t caller list operator) < byteEnd
   unfolding arrivedReasons every
   arrived-low caller list operator = first-low (arrivedReasons t caller list operator) refl
 

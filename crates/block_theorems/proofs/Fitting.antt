@@ -11,7 +11,7 @@ use lib.ListN.{getD, length}
 use borrow.Author.Tests.{eqb-true, eqb-false, ltb-true, leb-true, lt-ltb}
 use Rattle.rules.specs.declared.Timer.{Timer}
 use Rattle.rules.specs.declared.Table.{Table}
-use Rattle.rules.specs.Numbers.{taskRoom, regionRoom, queueRoom, places, storeSize, criterionEnd, eventEnd, timerRoom, tickEnd, nobody}
+use Rattle.rules.specs.Numbers.{taskRoom, regionRoom, mostEntries, queueRoom, places, storeSize, criterionEnd, eventEnd, timerRoom, tickEnd, nobody}
 use Rattle.rules.specs.Words.{isZero, every}
 use Rattle.rules.specs.Regions.{held}
 use Rattle.rules.specs.Timers.{isArmed}
@@ -21,7 +21,8 @@ use Rattle.rules.proofs.Bools.{given, shown, and-left, and-right, or-cases}
 use Rattle.rules.proofs.Lists.{every-cons, every-nil}
 use Rattle.rules.proofs.Counts.{below-at}
 use Rattle.rules.proofs.Clock.{every-kept}
-use Rattle.rules.proofs.Validity.{rowZero, rowFits, row-given, tasksRight, regionFits, regionsRight, boundFits, queueRight, queuesRight, Parts, held-fits, elected-below}
+use Rattle.rules.proofs.Validity.{rowZero, rowFits, row-given, tasksRight, regionFits, regionsRight, boundFits, queueRight, queuesRight, Parts, held-fits, elected-below, entries-fit}
+use Rattle.rules.proofs.Entries.{entries-most}
 use Rattle.packing.proofs.RoundTrips.{fits, timerFits}
 use Rattle.block_theorems.specs.Ranges.{elementsInRange}
 
@@ -33,6 +34,7 @@ pub record Sized (t : Table) : Type 0 where
   pub list : length (t .list) ≡ taskRoom
   pub operator : length (t .operator) ≡ taskRoom
   pub holder : length (t .holder) ≡ regionRoom
+  pub entries : length (t .entries) ≡ regionRoom
   pub bound : length (t .bound) ≡ queueRoom
   pub lengths : length (t .length) ≡ queueRoom
   pub element : length (t .element) ≡ storeSize
@@ -51,6 +53,7 @@ pub record Fitting (t : Table) : Type 0 where
   pub list : every (fits 2) (t .list) ≡ true
   pub operator : every (fits 1) (t .operator) ≡ true
   pub holder : every (fits 1) (t .holder) ≡ true
+  pub entries : every (fits 1) (t .entries) ≡ true
   pub bound : every (fits 1) (t .bound) ≡ true
   pub lengths : every (fits 1) (t .length) ≡ true
   pub element : every (fits 4) (t .element) ≡ true
@@ -75,7 +78,7 @@ zero-fits width n z = let e = eqb-true n 0 z in smaller width n 0 (omega arith) 
 pub sized : (t : Table) → shaped t ≡ true → Sized t
 unfolding shaped
 sized t h =
-    let (a, (b, (c, (d, (e, (f, (g, (i, (j, (k, (l, u))))))))))) = given _ h in
+    let (a, (b, (c, (d, (e, (f, (n, (g, (i, (j, (k, (l, u)))))))))))) = given _ h in
     record {
       priority = eqb-true _ _ a;
       state = eqb-true _ _ b;
@@ -83,6 +86,7 @@ sized t h =
       list = eqb-true _ _ d;
       operator = eqb-true _ _ e;
       holder = eqb-true _ _ f;
+      entries = eqb-true _ _ n;
       bound = eqb-true _ _ g;
       lengths = eqb-true _ _ i;
       element = eqb-true _ _ j;
@@ -161,6 +165,12 @@ module _ (t : Table) (p : Parts t) where
       smaller 1 h taskRoom (omega arith) (omega arith))
       (or-cases (isZero h) _ (below-at _ regionRoom i (p .regions) k))
 
+  counted-fits : (i : ℕ) → i < regionRoom → fits 1 (getD (t .entries) i 0) ≡ true
+  counted-fits i k =
+      let n = getD (t .entries) i 0 in
+      let most = entries-most (getD (t .holder) i 0) n (entries-fit t p i k) in
+      smaller 1 n mostEntries most (omega arith)
+
   bound-small : (queues q bound n : ℕ) → boundFits queues q bound n ≡ true → (bound ≤ places) × (n ≤ places)
   unfolding boundFits
   bound-small queues q bound n h = go (ltb q queues) refl
@@ -216,6 +226,7 @@ module _ (t : Table) (p : Parts t) where
         list = every-by (fits 2) (t .list) taskRoom (s .list) (λ i k. row i k .list-fits);
         operator = every-by (fits 1) (t .operator) taskRoom (s .operator) (λ i k. row i k .operator-fits);
         holder = every-by (fits 1) (t .holder) regionRoom (s .holder) holder-fits;
+        entries = every-by (fits 1) (t .entries) regionRoom (s .entries) counted-fits;
         bound = every-by (fits 1) (t .bound) queueRoom (s .bound) (λ q k. smaller 1 _ places (bounds q k .0) (omega arith));
         lengths = every-by (fits 1) (t .length) queueRoom (s .lengths) (λ q k. smaller 1 _ places (bounds q k .1) (omega arith));
         element = e;

@@ -16,7 +16,7 @@ use Rattle.rules.proofs.Counts.{below-all}
 use Rattle.packing.specs.Bytes.{bytes, spread}
 use Rattle.packing.specs.Timers.{timerWidth, unusedPlace, timersIn, timersBytes}
 use Rattle.packing.proofs.RoundTrips.{fits, bytes-length, bytes-small, spread-length, spread-small, numbers-spread, timers-length, timers-small, timers-read, timers-unused}
-use Rattle.block.specs.Layout.{priorityPlace, statePlace, arrivedPlace, listPlace, operatorPlace, holderPlace, boundPlace, lengthPlace, elementPlace, criterionPlace, ticksPlace, timersPlace, blockSize, part, unpacked, packed, unusedZero}
+use Rattle.block.specs.Layout.{priorityPlace, statePlace, arrivedPlace, listPlace, operatorPlace, holderPlace, entriesPlace, boundPlace, lengthPlace, elementPlace, criterionPlace, ticksPlace, timersPlace, blockSize, part, unpacked, packed, unusedZero}
 use Rattle.block.proofs.Back.{bytes-back as packed-unpacked}
 use Rattle.block_theorems.specs.Ranges.{areBytes}
 use Rattle.block_theorems.specs.Packed.{BytesBack}
@@ -55,6 +55,7 @@ module _ (t : Table) where
       ∷ spread 2 (t .list)
       ∷ spread 1 (t .operator)
       ∷ spread 1 (t .holder)
+      ∷ spread 1 (t .entries)
       ∷ spread 1 (t .bound)
       ∷ spread 1 (t .length)
       ∷ spread 4 (t .element)
@@ -84,6 +85,7 @@ sizes =
     ∷ 2 * taskRoom
     ∷ taskRoom
     ∷ regionRoom
+    ∷ regionRoom
     ∷ queueRoom
     ∷ queueRoom
     ∷ 4 * storeSize
@@ -105,6 +107,7 @@ module _ (t : Table) (s : Sized t) where
         s .list,
         s .operator,
         s .holder,
+        s .entries,
         s .bound,
         s .lengths,
         s .element,
@@ -142,6 +145,7 @@ same-table : (u t : Table)
     → u .list ≡ t .list
     → u .operator ≡ t .operator
     → u .holder ≡ t .holder
+    → u .entries ≡ t .entries
     → u .bound ≡ t .bound
     → u .length ≡ t .length
     → u .element ≡ t .element
@@ -149,7 +153,7 @@ same-table : (u t : Table)
     → u .ticks ≡ t .ticks
     → u .timers ≡ t .timers
     → u ≡ t
-same-table u t a b c d e f g h i j k l m n o p =
+same-table u t a b c d e f g h i j q k l m n o p =
     λ x.
     record {
       tasks = a x;
@@ -162,6 +166,7 @@ same-table u t a b c d e f g h i j k l m n o p =
       list = h x;
       operator = i x;
       holder = j x;
+      entries = q x;
       bound = k x;
       length = l x;
       element = m x;
@@ -173,13 +178,13 @@ same-table u t a b c d e f g h i j k l m n o p =
 module _ (t : Table) (s : Sized t) (f : Fitting t) where
   ticks-read : getD (part ticksPlace 4 1 (packed t)) 0 0 ≡ t .ticks
   unfolding bytes spread
-  ticks-read = ap (λ ns. getD ns 0 0) (column-read 4 1 ticksPlace (packed t) (t .ticks ∷ []) _ (from t s 14) refl ticks-fit)
+  ticks-read = ap (λ ns. getD ns 0 0) (column-read 4 1 ticksPlace (packed t) (t .ticks ∷ []) _ (from t s 15) refl ticks-fit)
     where
       ticks-fit : every (fits 4) (t .ticks ∷ []) ≡ true
       ticks-fit = every-cons (fits 4) (t .ticks) [] (f .ticks) (every-nil (fits 4))
 
   timers-back : timersIn timerRoom (drop timersPlace (packed t)) ≡ t .timers
-  timers-back = rw (from t s 15, ← s .timers) (timers-read (t .timers) [] (f .timers))
+  timers-back = rw (from t s 16, ← s .timers) (timers-read (t .timers) [] (f .timers))
 
   pub packed-back : unpacked (packed t) ≡ t
   unfolding unpacked
@@ -195,10 +200,11 @@ module _ (t : Table) (s : Sized t) (f : Fitting t) where
       (column-read 2 taskRoom listPlace (packed t) _ _ (from t s 7) (s .list) (f .list))
       (column-read 1 taskRoom operatorPlace (packed t) _ _ (from t s 8) (s .operator) (f .operator))
       (column-read 1 regionRoom holderPlace (packed t) _ _ (from t s 9) (s .holder) (f .holder))
-      (column-read 1 queueRoom boundPlace (packed t) _ _ (from t s 10) (s .bound) (f .bound))
-      (column-read 1 queueRoom lengthPlace (packed t) _ _ (from t s 11) (s .lengths) (f .lengths))
-      (column-read 4 storeSize elementPlace (packed t) _ _ (from t s 12) (s .element) (f .element))
-      (column-read 1 storeSize criterionPlace (packed t) _ _ (from t s 13) (s .criterion) (f .criterion))
+      (column-read 1 regionRoom entriesPlace (packed t) _ _ (from t s 10) (s .entries) (f .entries))
+      (column-read 1 queueRoom boundPlace (packed t) _ _ (from t s 11) (s .bound) (f .bound))
+      (column-read 1 queueRoom lengthPlace (packed t) _ _ (from t s 12) (s .lengths) (f .lengths))
+      (column-read 4 storeSize elementPlace (packed t) _ _ (from t s 13) (s .element) (f .element))
+      (column-read 1 storeSize criterionPlace (packed t) _ _ (from t s 14) (s .criterion) (f .criterion))
       ticks-read
       timers-back
 
@@ -211,7 +217,7 @@ module _ (t : Table) (s : Sized t) (f : Fitting t) where
           let place : timersPlace + (timerWidth * i + unusedPlace) ≡ timersPlace + timerWidth * i + unusedPlace = omega arith in
           ap (λ j. getD (packed t) j 0) (sym place)
           ∙ sym (getD-drop timersPlace (packed t) (timerWidth * i + unusedPlace) 0)
-          ∙ ap (λ bs. getD bs (timerWidth * i + unusedPlace) 0) (from t s 15)
+          ∙ ap (λ bs. getD bs (timerWidth * i + unusedPlace) 0) (from t s 16)
           ∙ timers-unused (t .timers) [] i (rw (s .timers) k)
 
 -- ---- unpacked, then packed: the law that the exported calls are proved by

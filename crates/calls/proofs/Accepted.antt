@@ -1,11 +1,12 @@
 -- What an accepted call knows: who calls, which task it changes, and that its numbers fit.
-use Prim.Native.Nat.{ℕ, suc, _%_, _<_, _≤_}
+use Prim.Native.Nat.{ℕ, suc, _+_, _%_, _<_, _≤_}
 use mathlib.Core.Path.{_≡_, refl, sym, ap, _∙_}
 use mathlib.Core.Logic.{_≢_, _⊎_, inl, inr, ⊎-elim}
 use mathlib.Core.Bool.{Bool, true, false, cond, not, _&&_, _||_, true≢false}
 use mathlib.Core.List.{List, map}
 use native.Mathlib.Omega.{arith}
 use native.Mathlib.Nat.{mod-eq-of-lt}
+use native.Mathlib.Numerals.{add-one}
 use lib.Dec.{eqb, ltb}
 use lib.ListN.{getD, set}
 use borrow.Author.Tests.{eqb-true, eqb-false, ne-eqb, ltb-true, ltb-false, leb-true, not-false}
@@ -13,23 +14,23 @@ use Rattle.rules.specs.declared.Task.{Task}
 use Rattle.rules.specs.declared.Timer.{Timer}
 use Rattle.rules.specs.declared.Table.{Table}
 use Rattle.rules.specs.declared.Call.{Call}
-use Rattle.rules.specs.Numbers.{taskRoom, regionRoom, timerRoom, eventEnd, outside, STOP, END, SIGNAL, WAIT, ENTER, EXIT, ARM, DISARM, TICK}
+use Rattle.rules.specs.Numbers.{taskRoom, regionRoom, mostEntries, timerRoom, eventEnd, outside, STOP, END, SIGNAL, WAIT, ENTER, EXIT, ARM, DISARM, TICK}
 use Rattle.rules.specs.Words.{isZero}
-use Rattle.rules.specs.Regions.{entered, exited}
 use Rattle.rules.specs.Queues.{noPair}
 use Rattle.rules.specs.Events.{met}
 use Rattle.rules.specs.Tasks.{stopped, waited}
 use Rattle.rules.specs.Timers.{idle, later, asArmed, disarmed}
-use Rattle.rules.specs.Tables.{taskOf, changed, withHolders, withTimers}
+use Rattle.rules.specs.Tables.{taskOf, regionOf, changed, withRegion, withTimers}
 use Rattle.rules.specs.Validity.{countsInRange}
 use Rattle.rules.specs.Refusals.{missing, wrongState}
 use Rattle.rules.specs.Effects.{Effect, plain, effect}
 use Rattle.rules.proofs.Bools.{given, or-left, or-right}
-use Rattle.rules.proofs.Validity.{Parts, parts-of, elected-ready, elected-below}
+use Rattle.rules.proofs.Validity.{Parts, parts-of, elected-ready, elected-below, entries-fit}
 use Rattle.rules.proofs.Refusals.{Accepted}
+use Rattle.rules.proofs.Entries.{entries-most}
 use Rattle.rules.proofs.Lists.{altered-set}
 use Rattle.rules.proofs.Effects.{upto}
-use Rattle.effects.specs.Effects.{target, taskAfter, holderAfter, timerAfter}
+use Rattle.effects.specs.Effects.{target, taskAfter, regionAfter, timerAfter}
 
 -- STOP and END of task i leave these timers
 abbrev pub timersLeft : ℕ → ℕ → List Timer → List Timer
@@ -181,7 +182,7 @@ module _ (t : Table) (c : Call) (a : Accepted t c) where
       waits : (i : ℕ) → with-status i (cond (met (c .b) (c .a) (taskOf t i .arrived)) 0 1) ≡ with-status i (cond (not (met (c .b) (c .a) (taskOf t i .arrived))) 1 0)
       waits i = ap (with-status i) (flip (met (c .b) (c .a) (taskOf t i .arrived)))
 
-  -- ---- ENTER and EXIT as one change of one entry
+  -- ---- ENTER and EXIT as one change of one region
 
   enter-or-exit : 5 < c .operation → c .operation < 8 → (c .operation ≡ ENTER) ⊎ (c .operation ≡ EXIT)
   enter-or-exit l h = go (eqb (c .operation) ENTER) refl
@@ -197,13 +198,21 @@ module _ (t : Table) (c : Call) (a : Accepted t c) where
       (λ e. within (c .a) (t .regions) (rw e at (a .nothing-missing)))
       (enter-or-exit l h)
 
+  -- an accepted ENTER's count fits: it is not at its end, and a count is at most 255
+  entries-counted : c .operation ≡ ENTER → (getD (t .entries) (c .a) 0 + 1) % 256 ≡ suc (getD (t .entries) (c .a) 0)
+  unfolding countsInRange
+  entries-counted e =
+      let n = getD (t .entries) (c .a) 0 in
+      let below = region-there (omega (arith, e)) (omega (arith, e)) in
+      let room = leb-true (t .regions) regionRoom (given _ (parts .counts) .1 .1 .0) in
+      let most = entries-most (getD (t .holder) (c .a) 0) n (entries-fit t parts (c .a) (omega arith)) in
+      let more : n ≢ mostEntries = eqb-false n mostEntries (rw e at (a .may-enter)) in
+      mod-eq-of-lt (omega (arith, more)) ∙ add-one n
+
   pub region-effect : 5 < c .operation → c .operation < 8
-      → effect t c ≡ plain (withHolders (set (t .holder) (c .a) (holderAfter c (suc (c .caller)) (getD (t .holder) (c .a) 0))) t)
-  unfolding effect holderAfter
-  region-effect l h =
-      ⊎-elim (λ e. rw e (ap (λ holders. plain (withHolders holders t)) (altered-set (entered (c .caller)) (c .a) 0 (t .holder))))
-      (λ e. rw e (ap (λ holders. plain (withHolders holders t)) (altered-set (exited (c .caller)) (c .a) 0 (t .holder))))
-      (enter-or-exit l h)
+      → effect t c ≡ plain (withRegion (c .a) (regionAfter c (suc (c .caller)) (regionOf t (c .a))) t)
+  unfolding effect regionAfter
+  region-effect l h = ⊎-elim (λ e. rw (entries-counted e) (rw e refl)) (λ e. rw e refl) (enter-or-exit l h)
 
   -- ---- ARM and DISARM as one change of one timer
 

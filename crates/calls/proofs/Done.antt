@@ -11,6 +11,7 @@ use lib.Dec.{eqb, ltb}
 use lib.ListN.{getD, set, length}
 use borrow.Author.Tests.{eqb-true, eqb-false, ne-eqb, ltb-true, ltb-false, leb-false, not-false}
 use Rattle.rules.specs.declared.Task.{Task}
+use Rattle.rules.specs.declared.Region.{Region}
 use Rattle.rules.specs.declared.Timer.{Timer}
 use Rattle.rules.specs.declared.Table.{Table}
 use Rattle.rules.specs.declared.Call.{Call}
@@ -20,7 +21,7 @@ use Rattle.rules.specs.Events.{met}
 use Rattle.rules.specs.Regions.{held}
 use Rattle.rules.specs.Queues.{Pair, pair, firstPlace}
 use Rattle.rules.specs.Timers.{disarmed}
-use Rattle.rules.specs.Tables.{taskOf, lengthOf, boundOf, queueOf, withTask, withHolders, withTimers, withElected, electionOf}
+use Rattle.rules.specs.Tables.{taskOf, regionOf, lengthOf, boundOf, queueOf, withTask, withRegion, withTimers, withElected, electionOf}
 use Rattle.rules.specs.Answers.{done}
 use Rattle.rules.specs.Refusals.{missing, refusal}
 use Rattle.rules.specs.Effects.{Effect, plain, effect}
@@ -32,7 +33,7 @@ use Rattle.rules.proofs.Validity.{Parts, parts-of, sound, bound-below}
 use Rattle.rules.proofs.Refusals.{Accepted, accepted-facts}
 use Rattle.queues.specs.Places.{placeIn, closedIn}
 use Rattle.queues.proofs.Places.{place-is, none-is, given-is, taken-is}
-use Rattle.effects.specs.Effects.{target, taskAfter, holderAfter}
+use Rattle.effects.specs.Effects.{target, taskAfter, regionAfter}
 use Rattle.refusals.proofs.Refused.{room, send-there, retrieve-there}
 use Rattle.calls.proofs.Accepted.{timersLeft, still-runs, task-effect, region-effect}
 
@@ -115,13 +116,14 @@ module _ (t : Table) (c : Call) (z : refusal t c ≡ 0) where
       rw own (task-done h i is after m (held (t .holder)) (t .elected) waits p q refl elects w (still-runs t c facts i is after p same))
 
   -- ENTER and EXIT
-  pub region-done : 5 < c .operation → c .operation < 8 → (entry v who status : ℕ) → entry ≡ holderAfter c (c .caller + 1) (getD (t .holder) (c .a) 0)
-      → v ≡ held (set (t .holder) (c .a) entry) → who ≡ electedBy v (t .state) (t .priority) → status ≡ 0
-      → record { table = withElected who (withHolders (set (t .holder) (c .a) entry) t); answer = record { status = status; value = 0; key = 0; elected = who } }
+  pub region-done : 5 < c .operation → c .operation < 8 → (after : Region) (v who status : ℕ)
+      → after ≡ regionAfter c (c .caller + 1) (regionOf t (c .a)) → v ≡ held (set (t .holder) (c .a) (after .holder))
+      → who ≡ electedBy v (t .state) (t .priority) → status ≡ 0
+      → record { table = withElected who (withRegion (c .a) after t); answer = record { status = status; value = 0; key = 0; elected = who } }
       ≡ step t c
-  region-done l h entry v who status p q r none =
-      let own : entry ≡ holderAfter c (suc (c .caller)) (getD (t .holder) (c .a) 0) = rw add-one at p in
-      let elects : who ≡ electionOf (withHolders (set (t .holder) (c .a) (holderAfter c (suc (c .caller)) (getD (t .holder) (c .a) 0))) t) = r ∙ rw (q, own) (election-by _ _ _) in
+  region-done l h after v who status p q r none =
+      let own : after ≡ regionAfter c (suc (c .caller)) (regionOf t (c .a)) = rw add-one at p in
+      let elects : who ≡ electionOf (withRegion (c .a) (regionAfter c (suc (c .caller)) (regionOf t (c .a))) t) = r ∙ rw (q, own) (election-by _ _ _) in
       rw (none, elects, own) (sym (accepted-is t c z ∙ ap accepted (region-effect t c facts l h)))
 
   -- ---- SEND and RETRIEVE: nobody is elected again, since neither tasks nor holders change

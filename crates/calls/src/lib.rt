@@ -1,5 +1,5 @@
 // One call: refused with the first reason that applies, or done and the elected task found afresh.
-use effects::holder_after;
+use effects::region_after;
 use effects::target_of;
 use effects::task_after;
 use effects::timer_after;
@@ -12,6 +12,7 @@ use refusals::refusal_of;
 use rules::Answer;
 use rules::Call;
 use rules::Done;
+use rules::Region;
 use rules::Table;
 use rules::Task;
 use tasks::elected_by;
@@ -43,6 +44,7 @@ pub fn call(mut t: Table, k: Call) -> Done
         &t.list,
         &t.operator,
         &t.holder,
+        &t.entries,
         &t.bound,
         &t.length,
         &t.element,
@@ -85,7 +87,18 @@ pub fn call(mut t: Table, k: Call) -> Done
             let at = k.a as usize;
             if operation < 8 {
                 let mine = k.caller + 1;
-                t.holder[at] = holder_after(k, mine, t.holder[at]);
+                let holder = t.holder[at];
+                let entries = t.entries[at];
+                let region = region_after(
+                    k,
+                    mine,
+                    Region {
+                        holder: holder,
+                        entries: entries,
+                    },
+                );
+                t.holder[at] = region.holder;
+                t.entries[at] = region.entries;
                 let v = held_by(&t.holder);
                 who = elected_by(v, &t.state, &t.priority);
                 t.elected = who;

@@ -21,6 +21,7 @@ freshBy tasks regions queues priority bound =
       list = replicate taskRoom 0;
       operator = replicate taskRoom 0;
       holder = replicate regionRoom 0;
+      entries = replicate regionRoom 0;
       bound = bound;
       length = replicate queueRoom 0;
       element = replicate storeSize 0;

@@ -1,13 +1,15 @@
--- The first six operations as one change of one task, ENTER and EXIT as one of one region's entry, and ARM and DISARM as one of one
+-- The first six operations as one change of one task, ENTER and EXIT as one of one region, and ARM and DISARM as one of one
 -- timer, for the code's shape.
-use Prim.Native.Nat.{ℕ, _%_}
+use Prim.Native.Nat.{ℕ, _+_, _%_}
 use mathlib.Core.Bool.{cond}
 use lib.Dec.{eqb, ltb}
 use Rattle.rules.specs.declared.Task.{Task}
+use Rattle.rules.specs.declared.Region.{Region}
 use Rattle.rules.specs.declared.Timer.{Timer}
 use Rattle.rules.specs.declared.Call.{Call}
 use Rattle.rules.specs.Numbers.{START, SIGNAL, WAIT, CLEAR, ENTER, ARM}
 use Rattle.rules.specs.Tasks.{asStarted, asStopped, signalled, waited, asCleared}
+use Rattle.rules.specs.Regions.{countedDown}
 use Rattle.rules.specs.Timers.{later, asArmed, disarmed}
 
 -- which task a call changes
@@ -22,9 +24,12 @@ taskAfter c r =
     (cond (eqb (c .operation) WAIT) (waited (c .a % 65536) (c .b % 256) r)
     (cond (eqb (c .operation) CLEAR) (asCleared (c .a % 65536) r) (asStopped r))))
 
--- a region's entry after ENTER or EXIT by the task whose entry is `mine`
-unfoldable pub holderAfter : Call → ℕ → ℕ → ℕ
-holderAfter c mine h = cond (eqb (c .operation) ENTER) mine (cond (eqb h mine) 0 h)
+-- a region after ENTER or EXIT by the task whose entry is `mine`; an accepted ENTER's count fits, so that the remainder changes nothing
+unfoldable pub regionAfter : Call → ℕ → Region → Region
+regionAfter c mine r =
+    cond (eqb (c .operation) ENTER)
+    (record { holder = mine; entries = (r .entries + 1) % 256 })
+    (cond (eqb (r .holder) mine) (countedDown r) r)
 
 -- a timer after ARM or DISARM; an event that exists fits, so that the remainder changes nothing
 unfoldable pub timerAfter : Call → ℕ → Timer → Timer

@@ -1,5 +1,6 @@
 // What an accepted call does to one task, one region or one timer.
 use rules::Call;
+use rules::Region;
 use rules::Task;
 use rules::Timer;
 use tasks::met_by;
@@ -9,7 +10,8 @@ use timers::disarmed_timer;
 use timers::later_by;
 ghost use mathlib.Core.Path.{_≡_};
 ghost use Rattle.rules.specs.Tasks.{waited, asCleared};
-ghost use Rattle.effects.specs.Effects.{target, taskAfter, holderAfter, timerAfter};
+ghost use Rattle.rules.specs.Regions.{countedDown};
+ghost use Rattle.effects.specs.Effects.{target, taskAfter, regionAfter, timerAfter};
 
 // Which task the call changes: the one that START, STOP and SIGNAL name, else the caller.
 pub fn target_of(k: Call) -> u32
@@ -75,14 +77,39 @@ pub fn task_after(k: Call, r: Task) -> Task
     }
 }
 
-// The region's entry after ENTER or EXIT by the task whose entry is `mine`.
-pub fn holder_after(k: Call, mine: u8, h: u8) -> u8
-    ensures { λ r. ⌜ r ≡ holderAfter k mine h ⌝ }
+// One entry less, and free behind the first. A region that is not counted stays as it is.
+fn counted_down(r: Region) -> Region
+    ensures { λ r1. ⌜ r1 ≡ countedDown r ⌝ }
+{
+    if r.entries == 1 {
+        return Region {
+            holder: 0,
+            entries: 0,
+        };
+    }
+    if r.entries == 0 {
+        return r;
+    }
+    Region {
+        holder: r.holder,
+        entries: r.entries - 1,
+    }
+}
+
+// The region after ENTER or EXIT by the task whose entry is `mine`.
+pub fn region_after(k: Call, mine: u8, r: Region) -> Region
+    ensures { λ r1. ⌜ r1 ≡ regionAfter k mine r ⌝ }
 {
     if k.operation == 6 {
-        return mine;
+        return Region {
+            holder: mine,
+            entries: std::num::wrapping_add_u8(r.entries, 1),
+        };
     }
-    if h == mine { 0 } else { h }
+    if r.holder == mine {
+        return counted_down(r);
+    }
+    r
 }
 
 // The timer after ARM or DISARM.

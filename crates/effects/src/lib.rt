@@ -1,7 +1,7 @@
 // What an accepted call does to the one thing that it changes: a task, a region or a timer.
 mod effect;
 
-pub use effect::holder_after;
+pub use effect::region_after;
 pub use effect::target_of;
 pub use effect::task_after;
 pub use effect::timer_after;

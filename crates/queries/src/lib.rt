@@ -88,6 +88,7 @@ pub fn is_valid(t: Table) -> bool
         &t.list,
         &t.operator,
         &t.holder,
+        &t.entries,
         &t.bound,
         &t.length,
         &t.element,

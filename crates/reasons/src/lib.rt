@@ -9,6 +9,7 @@ mod numbers;
 pub use answer::reported_by;
 pub use choice::pick;
 pub use early::early_of;
+pub use lookup::count_at;
 pub use lookup::entry_at;
 pub use lookup::state_at;
 pub use numbers::leaves_of;

@@ -11,7 +11,7 @@ use borrow.Author.Tests.{eqb-true, eqb-false, ne-eqb, ltb-true, ltb-false}
 use Rattle.rules.specs.declared.Timer.{Timer}
 use Rattle.rules.specs.declared.Call.{Call}
 use Rattle.rules.specs.Words.{byOperation}
-use Rattle.rules.specs.Numbers.{WAIT, SEND, RETRIEVE, ARM, DISARM, TICK}
+use Rattle.rules.specs.Numbers.{WAIT, ENTER, SEND, RETRIEVE, ARM, DISARM, TICK}
 use Rattle.rules.specs.Words.{first}
 use Rattle.rules.specs.Refusals.{othersAt, wrongState, leaves, missing}
 use Rattle.rules.proofs.Effects.{upto}
@@ -76,13 +76,13 @@ lacking-other : (lengths criterion : List ℕ) (c : Call) → c .operation ≢ R
 unfolding lacking
 lacking-other lengths criterion c h = rw (ne-eqb (c .operation) RETRIEVE h)
 
-module _ (tasks regions queues : ℕ) (state holder bound lengths criterion : List ℕ) (timers : List Timer) (c : Call) where
-  pub late-missing : missing tasks regions queues c ≡ true → 14 ≡ first (lateFlags tasks regions queues state holder bound lengths criterion timers c)
+module _ (tasks regions queues : ℕ) (state holder entries bound lengths criterion : List ℕ) (timers : List Timer) (c : Call) where
+  pub late-missing : missing tasks regions queues c ≡ true → 14 ≡ first (lateFlags tasks regions queues state holder entries bound lengths criterion timers c)
   unfolding lateFlags
   late-missing m = rw m refl
 
   pub late-timer : missing tasks regions queues c ≡ false → 9 < c .operation → (r : ℕ) → r ≡ first (timerFlags timers c)
-      → r ≡ first (lateFlags tasks regions queues state holder bound lengths criterion timers c)
+      → r ≡ first (lateFlags tasks regions queues state holder entries bound lengths criterion timers c)
   unfolding lateFlags timerFlags
   late-timer m h r p =
       rw (
@@ -92,16 +92,17 @@ module _ (tasks regions queues : ℕ) (state holder bound lengths criterion : Li
         leaves-past c (omega arith),
         ne-eqb (c .operation) SEND (omega arith),
         lacking-other lengths criterion c (omega arith),
+        ne-eqb (c .operation) ENTER (omega arith),
       )
       p
 
   pub late-queue : missing tasks regions queues c ≡ false → 7 < c .operation → c .operation ≤ 9 → (r : ℕ) → r ≡ first (queueFlags bound lengths criterion c)
-      → r ≡ first (lateFlags tasks regions queues state holder bound lengths criterion timers c)
+      → r ≡ first (lateFlags tasks regions queues state holder entries bound lengths criterion timers c)
   unfolding lateFlags queueFlags
-  late-queue m l h r p = rw (m, ne-eqb (c .operation) WAIT (omega arith), wrong-queue state timers c l (omega arith), leaves-past c l) p
+  late-queue m l h r p = rw (m, ne-eqb (c .operation) WAIT (omega arith), wrong-queue state timers c l (omega arith), leaves-past c l, ne-eqb (c .operation) ENTER (omega arith)) p
 
-  pub late-task : missing tasks regions queues c ≡ false → c .operation ≤ 7 → (r : ℕ) → r ≡ first (taskFlags state holder c)
-      → r ≡ first (lateFlags tasks regions queues state holder bound lengths criterion timers c)
+  pub late-task : missing tasks regions queues c ≡ false → c .operation ≤ 7 → (r : ℕ) → r ≡ first (taskFlags state holder entries c)
+      → r ≡ first (lateFlags tasks regions queues state holder entries bound lengths criterion timers c)
   unfolding lateFlags taskFlags
   late-task m h r p =
       rw (m, wrong-below state timers c (omega arith), ne-eqb (c .operation) SEND (omega arith), lacking-other lengths criterion c (omega arith)) p

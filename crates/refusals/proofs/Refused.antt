@@ -9,13 +9,13 @@ use lib.ListN.{length}
 use borrow.Author.Tests.{eqb-true, ne-eqb, ltb-true, leb-true, lt-ltb, not-false}
 use Rattle.rules.specs.declared.Table.{Table}
 use Rattle.rules.specs.declared.Call.{Call}
-use Rattle.rules.specs.Numbers.{queueRoom, WAIT, SEND, RETRIEVE, TICK}
+use Rattle.rules.specs.Numbers.{queueRoom, WAIT, ENTER, SEND, RETRIEVE, TICK}
 use Rattle.rules.specs.Words.{isZero, every, Reason, when, first}
 use Rattle.rules.specs.Regions.{occupied}
 use Rattle.rules.specs.Queues.{noneFits}
 use Rattle.rules.specs.Tables.{boundOf, lengthOf, queueOf}
 use Rattle.rules.specs.Validity.{valid, countsInRange}
-use Rattle.rules.specs.Refusals.{outsideBarred, notElected, tickByTask, missing, badOperator, wrongState, leaves, reasons, refusal}
+use Rattle.rules.specs.Refusals.{outsideBarred, notElected, tickByTask, missing, badOperator, wrongState, leaves, entriesFull, reasons, refusal}
 use Rattle.rules.proofs.Bools.{given, or-left}
 use Rattle.rules.proofs.Queues.{queue-length}
 use Rattle.rules.proofs.Validity.{Parts, parts-of, sound}
@@ -28,7 +28,7 @@ early ok elected c =
     when 10 (not ok) ∷ when 11 (ltb TICK (c .operation)) ∷ when 13 (outsideBarred c) ∷ when 12 (notElected elected (c .caller)) ∷ when 13 (tickByTask c) ∷ []
 
 abbrev pub flagsOf : Table → Call → List Reason
-flagsOf t c = lateFlags (t .tasks) (t .regions) (t .queues) (t .state) (t .holder) (t .bound) (t .length) (t .criterion) (t .timers) c
+flagsOf t c = lateFlags (t .tasks) (t .regions) (t .queues) (t .state) (t .holder) (t .entries) (t .bound) (t .length) (t .criterion) (t .timers) c
 
 -- the rules' reasons from 14 on
 late : Table → Call → List Reason
@@ -39,6 +39,7 @@ late t c =
     ∷ when 16 (leaves c && occupied (t .holder))
     ∷ when 17 (eqb (c .operation) SEND && leb (boundOf t (c .a)) (length (queueOf t (c .a))))
     ∷ when 18 (eqb (c .operation) RETRIEVE && noneFits (c .c) (queueOf t (c .a)))
+    ∷ when 22 (eqb (c .operation) ENTER && entriesFull (t .entries) (c .a))
     ∷ []
 
 -- ---- 17 and 18 by places of the store, of a queue that exists

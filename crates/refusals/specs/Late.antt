@@ -6,10 +6,10 @@ use lib.Dec.{eqb, ltb, leb}
 use lib.ListN.{getD}
 use Rattle.rules.specs.declared.Timer.{Timer}
 use Rattle.rules.specs.declared.Call.{Call}
-use Rattle.rules.specs.Numbers.{queueRoom, places, WAIT, SEND, RETRIEVE, TICK}
+use Rattle.rules.specs.Numbers.{queueRoom, places, WAIT, ENTER, SEND, RETRIEVE, TICK}
 use Rattle.rules.specs.Words.{isZero, byOperation, Reason, when}
 use Rattle.rules.specs.Regions.{held}
-use Rattle.rules.specs.Refusals.{missing, badOperator, stoppedAt, othersAt, wrongState, leaves}
+use Rattle.rules.specs.Refusals.{missing, badOperator, stoppedAt, othersAt, wrongState, leaves, entriesFull}
 use Rattle.queues.specs.Places.{placeIn}
 
 -- 18 by places of the store: the place found is the end of the queue
@@ -27,11 +27,12 @@ wrongTask states c =
     (not (stoppedAt states (c .a)) ∷ stoppedAt states (c .a) ∷ false ∷ stoppedAt states (c .b) ∷ [])
 
 -- those of a call about tasks or regions, once 14 is ruled out
-unfoldable pub taskFlags : List ℕ → List ℕ → Call → List Reason
-taskFlags state holder c =
+unfoldable pub taskFlags : List ℕ → List ℕ → List ℕ → Call → List Reason
+taskFlags state holder entries c =
     when 19 (eqb (c .operation) WAIT && badOperator (c .b))
     ∷ when 15 (wrongTask state c)
     ∷ when 16 (leaves c && not (isZero (held holder)))
+    ∷ when 22 (eqb (c .operation) ENTER && entriesFull entries (c .a))
     ∷ []
 
 -- those of SEND and RETRIEVE
@@ -45,12 +46,13 @@ queueFlags bound lengths criterion c =
 unfoldable pub timerFlags : List Timer → Call → List Reason
 timerFlags timers c = when 15 (ltb (c .operation) TICK && othersAt timers (c .caller) (c .a)) ∷ []
 
-unfoldable pub lateFlags : ℕ → ℕ → ℕ → List ℕ → List ℕ → List ℕ → List ℕ → List ℕ → List Timer → Call → List Reason
-lateFlags tasks regions queues state holder bound lengths criterion timers c =
+unfoldable pub lateFlags : ℕ → ℕ → ℕ → List ℕ → List ℕ → List ℕ → List ℕ → List ℕ → List ℕ → List Timer → Call → List Reason
+lateFlags tasks regions queues state holder entries bound lengths criterion timers c =
     when 14 (missing tasks regions queues c)
     ∷ when 19 (eqb (c .operation) WAIT && badOperator (c .b))
     ∷ when 15 (wrongState state timers c)
     ∷ when 16 (leaves c && not (isZero (held holder)))
     ∷ when 17 (eqb (c .operation) SEND && leb (getD bound (c .a) 0) (getD lengths (c .a) 0))
     ∷ when 18 (lacking lengths criterion c)
+    ∷ when 22 (eqb (c .operation) ENTER && entriesFull entries (c .a))
     ∷ []

@@ -1,5 +1,6 @@
 // The refusals, in the order of the status table: the first that applies.
 use queues::place_of;
+use reasons::count_at;
 use reasons::early_of;
 use reasons::entry_at;
 use reasons::leaves_of;
@@ -17,7 +18,7 @@ ghost use lib.Dec.{eqb, leb};
 ghost use lib.ListN.{length, getD};
 ghost use Rattle.rules.specs.Words.{isZero, first};
 ghost use Rattle.rules.specs.Regions.{held};
-ghost use Rattle.rules.specs.Refusals.{leaves, refusal};
+ghost use Rattle.rules.specs.Refusals.{leaves, entriesFull, refusal};
 ghost use Rattle.validity.specs.Lent.{lent};
 ghost use Rattle.refusals.specs.Late.{lacking, wrongTask, taskFlags, queueFlags, timerFlags, lateFlags};
 
@@ -69,13 +70,29 @@ fn inside_of(holder: &[u8; 16], k: Call) -> bool
     false
 }
 
-// 19, 15 and 16: what is left to ask of a call that is about tasks or regions.
-fn task_reason_of<'a>(state: &'a [u8; 32], holder: &'a [u8; 16], k: Call) -> u8
+// 22: ENTER of a region whose count is at its end.
+fn deepest_of(entries: &[u8; 16], k: Call) -> bool
+    requires { ⌜ length (now entries) ≡ 16 ⌝ }
+    ensures { λ r. ⌜ r ≡ (eqb (k .operation) 6 && entriesFull (now (entries .entry)) (k .a)) ⌝ }
+{
+    let n = count_at(entries, k.a);
+    (k.operation == 6) & (n == 255)
+}
+
+// 19, 15, 16 and 22: what is left to ask of a call that is about tasks or regions.
+fn task_reason_of<'a>(
+    state: &'a [u8; 32],
+    holder: &'a [u8; 16],
+    entries: &'a [u8; 16],
+    k: Call,
+) -> u8
     requires { ⌜ length (now state) ≡ 32 ⌝ }
     requires { ⌜ length (now holder) ≡ 16 ⌝ }
-    ensures { λ r. ⌜ r ≡ first (taskFlags (now (state .entry)) (now (holder .entry)) k) ⌝ }
+    requires { ⌜ length (now entries) ≡ 16 ⌝ }
+    ensures { λ r. ⌜ r ≡ first (taskFlags (now (state .entry)) (now (holder .entry)) (now (entries .entry)) k) ⌝ }
 {
-    let r16 = pick(inside_of(holder, k), 16, 0);
+    let r22 = pick(deepest_of(entries, k), 22, 0);
+    let r16 = pick(inside_of(holder, k), 16, r22);
     let r15 = pick(wrong_task_of(state, k), 15, r16);
     pick((k.operation == 4) & (1 < k.b), 19, r15)
 }
@@ -112,6 +129,7 @@ fn late_of<'a>(
     queues: u8,
     state: &'a [u8; 32],
     holder: &'a [u8; 16],
+    entries: &'a [u8; 16],
     bound: &'a [u8; 8],
     lengths: &'a [u8; 8],
     criterion: &'a [u8; 512],
@@ -120,10 +138,11 @@ fn late_of<'a>(
 ) -> u8
     requires { ⌜ length (now state) ≡ 32 ⌝ }
     requires { ⌜ length (now holder) ≡ 16 ⌝ }
+    requires { ⌜ length (now entries) ≡ 16 ⌝ }
     requires { ⌜ length (now bound) ≡ 8 ⌝ }
     requires { ⌜ length (now lengths) ≡ 8 ⌝ }
     requires { ⌜ length (now criterion) ≡ 512 ⌝ }
-    ensures { λ r. ⌜ r ≡ first (lateFlags tasks regions queues (now (state .entry)) (now (holder .entry)) (now (bound .entry)) (now (lengths .entry)) (now (criterion .entry)) timers k) ⌝ }
+    ensures { λ r. ⌜ r ≡ first (lateFlags tasks regions queues (now (state .entry)) (now (holder .entry)) (now (entries .entry)) (now (bound .entry)) (now (lengths .entry)) (now (criterion .entry)) timers k) ⌝ }
 {
     if missing_of(tasks, regions, queues, k) {
         return 14;
@@ -134,7 +153,7 @@ fn late_of<'a>(
     if 7 < k.operation {
         return queue_reason_of(bound, lengths, criterion, k);
     }
-    task_reason_of(state, holder, k)
+    task_reason_of(state, holder, entries, k)
 }
 
 // The first reason that applies, 0 where none does.
@@ -149,6 +168,7 @@ pub fn refusal_of<'a>(
     list: &'a [u16; 32],
     operator: &'a [u8; 32],
     holder: &'a [u8; 16],
+    entries: &'a [u8; 16],
     bound: &'a [u8; 8],
     lengths: &'a [u8; 8],
     element: &'a [u32; 512],
@@ -163,11 +183,12 @@ pub fn refusal_of<'a>(
     requires { ⌜ length (now list) ≡ 32 ⌝ }
     requires { ⌜ length (now operator) ≡ 32 ⌝ }
     requires { ⌜ length (now holder) ≡ 16 ⌝ }
+    requires { ⌜ length (now entries) ≡ 16 ⌝ }
     requires { ⌜ length (now bound) ≡ 8 ⌝ }
     requires { ⌜ length (now lengths) ≡ 8 ⌝ }
     requires { ⌜ length (now element) ≡ 512 ⌝ }
     requires { ⌜ length (now criterion) ≡ 512 ⌝ }
-    ensures { λ r. ⌜ r ≡ refusal (lent tasks regions queues elected (now (priority .entry)) (now (state .entry)) (now (arrived .entry)) (now (list .entry)) (now (operator .entry)) (now (holder .entry)) (now (bound .entry)) (now (lengths .entry)) (now (element .entry)) (now (criterion .entry)) ticks timers) k ⌝ }
+    ensures { λ r. ⌜ r ≡ refusal (lent tasks regions queues elected (now (priority .entry)) (now (state .entry)) (now (arrived .entry)) (now (list .entry)) (now (operator .entry)) (now (holder .entry)) (now (entries .entry)) (now (bound .entry)) (now (lengths .entry)) (now (element .entry)) (now (criterion .entry)) ticks timers) k ⌝ }
 {
     let ok = valid_of(
         tasks,
@@ -180,6 +201,7 @@ pub fn refusal_of<'a>(
         list,
         operator,
         holder,
+        entries,
         bound,
         lengths,
         element,
@@ -197,6 +219,7 @@ pub fn refusal_of<'a>(
         queues,
         state,
         holder,
+        entries,
         bound,
         lengths,
         criterion,

@@ -1,22 +1,21 @@
 -- What each operation leaves alone, and a way to say a thing of each operation once.
 use Prim.Native.Nat.{ℕ, zero, suc, _<_, _≤_}
-use mathlib.Core.Path.{_≡_, refl, sym, ap, _∙_}
-use mathlib.Core.Logic.{_≢_}
+use mathlib.Core.Path.{_≡_, refl, sym, ap, ap₂, _∙_}
 use mathlib.Core.Bool.{Bool, true, false, cond, not, _&&_, _||_, false≢true}
 use mathlib.Core.List.{List, [], _∷_}
 use native.Mathlib.Omega.{arith}
 use native.Mathlib.Nat.{le-of-suc-le-suc}
 use lib.Dec.{ltb, eqb}
-use lib.ListN.{length, List·getD-eq-default}
-use borrow.Author.Tests.{eq-eqb, ne-eqb, ltb-true, ltb-false}
+use lib.ListN.{getD, set, length, List·getD-eq-default}
+use borrow.Author.Tests.{ltb-true, ltb-false}
 use Rattle.rules.specs.declared.Task.{Task}
 use Rattle.rules.specs.declared.Timer.{Timer}
 use Rattle.rules.specs.declared.Table.{Table}
 use Rattle.rules.specs.declared.Call.{Call}
 use Rattle.rules.specs.Numbers.{STOP, END, CLEAR, ENTER, EXIT, SEND, RETRIEVE, ARM, TICK}
-use Rattle.rules.specs.Words.{altered, byOperation}
+use Rattle.rules.specs.Words.{byOperation}
 use Rattle.rules.specs.Tasks.{signalled}
-use Rattle.rules.specs.Regions.{entered, exited}
+use Rattle.rules.specs.Regions.{exited}
 use Rattle.rules.specs.Timers.{later, isDue}
 use Rattle.rules.specs.Tables.{changed, electionOf}
 use Rattle.rules.specs.Effects.{Effect, plain, nothing, exit, ringing, ticked, operations, effect}
@@ -129,6 +128,14 @@ module _ (t : Table) (c : Call) where
       (λ h. refl, (λ h. refl, (λ h. refl, (λ h. refl, (λ h. refl, (λ h. refl, (λ h. never (sym h), (λ h. never (sym h), (λ h. refl, (λ h. refl, (λ h. refl, (λ h. refl, (λ h. ringing-same (λ u. u .holder) (λ i g u. refl) (later (t .ticks) 1) (t .timers) t, tt)))))))))))))
       (λ n h. refl)
 
+  -- and only they a count of entries
+  pub entries-kept : (eqb (c .operation) ENTER || eqb (c .operation) EXIT) ≡ false → effect t c .table .entries ≡ t .entries
+  unfolding ticked
+  entries-kept =
+      each-effect t c (λ n e. (eqb n ENTER || eqb n EXIT) ≡ false → e .table .entries ≡ t .entries)
+      (λ h. refl, (λ h. refl, (λ h. refl, (λ h. refl, (λ h. refl, (λ h. refl, (λ h. never (sym h), (λ h. never (sym h), (λ h. refl, (λ h. refl, (λ h. refl, (λ h. refl, (λ h. ringing-same (λ u. u .entries) (λ i g u. refl) (later (t .ticks) 1) (t .timers) t, tt)))))))))))))
+      (λ n h. refl)
+
   -- only SEND and RETRIEVE change what the queues hold
   pub contents-kept : (eqb (c .operation) SEND || eqb (c .operation) RETRIEVE) ≡ false → contentsOf (effect t c .table) ≡ contentsOf t
   unfolding ticked
@@ -157,19 +164,10 @@ module _ (t : Table) (c : Call) where
       (λ h. refl, (λ h. refl, (λ h. refl, (λ h. refl, (λ h. refl, (λ h. refl, (λ h. refl, (λ h. refl, (λ h. refl, (λ h. refl, (λ h. refl, (λ h. refl, (never, tt)))))))))))))
       (λ n h. refl)
 
--- ---- ENTER and EXIT, entry by entry
-
--- ENTER: "nothing changes if it is already"
-pub enter-again : (caller : ℕ) → entered caller (suc caller) ≡ suc caller
-enter-again caller = refl
-
--- EXIT: "region becomes free"; "nothing changes if the caller doesn't hold it"
-pub exit-frees : (caller : ℕ) → exited caller (suc caller) ≡ 0
-exit-frees caller = rw (eq-eqb (suc caller) (suc caller) refl)
-
-pub exit-leaves : (caller h : ℕ) → h ≢ suc caller → exited caller h ≡ h
-exit-leaves caller h n = rw (ne-eqb h (suc caller) n)
-
 -- EXIT looks at the regions alone: in two tables whose regions agree, whatever their events are, it leaves regions that agree
-pub exit-by-regions : (t u : Table) (c : Call) → t .holder ≡ u .holder → exit t c .table .holder ≡ exit u c .table .holder
-exit-by-regions t u c p = ap (altered (c .a) (exited (c .caller))) p
+pub exit-by-regions : (t u : Table) (c : Call) → t .holder ≡ u .holder → t .entries ≡ u .entries
+    → (exit t c .table .holder ≡ exit u c .table .holder) × (exit t c .table .entries ≡ exit u c .table .entries)
+exit-by-regions t u c p q = (
+  ap₂ (λ hs ns. set hs (c .a) (exited (c .caller) (record { holder = getD hs (c .a) 0; entries = getD ns (c .a) 0 }) .holder)) p q,
+  ap₂ (λ hs ns. set ns (c .a) (exited (c .caller) (record { holder = getD hs (c .a) 0; entries = getD ns (c .a) 0 }) .entries)) p q,
+)

@@ -14,5 +14,6 @@ pub mod Validity
 pub mod Refusals
 pub mod Effects
 pub mod Columns
+pub mod Entries
 pub mod Clock
 pub mod Rows

@@ -71,6 +71,7 @@ withStores lengths es cs t =
       list = t .list;
       operator = t .operator;
       holder = t .holder;
+      entries = t .entries;
       bound = t .bound;
       length = lengths;
       element = es;

@@ -1,9 +1,10 @@
--- The ten P rows of document 01's bench examples, as one list, shown right by one claim that antt computes; and T-01's timers likewise.
+-- The ten P rows of document 01's bench examples, as one list, shown right by one claim that antt computes; and T-01's timers and T-04's counts likewise.
 use Prim.Native.Nat.{ℕ}
 use mathlib.Core.Path.{_≡_, refl}
 use mathlib.Core.Bool.{Bool, true, _&&_}
 use mathlib.Core.List.{List, [], _∷_}
 use lib.Dec.{eqb}
+use Rattle.rules.specs.declared.Region.{Region}
 use Rattle.rules.specs.declared.Table.{Table}
 use Rattle.rules.specs.declared.Call.{Call}
 use Rattle.rules.specs.declared.Answer.{Answer}
@@ -15,8 +16,8 @@ use Rattle.rules.specs.Tasks.{woken, signalled, waited}
 use Rattle.rules.specs.Regions.{held}
 use Rattle.rules.specs.Queues.{pairs, front, behind, laid, largest, before, place, without}
 use Rattle.rules.specs.Election.{smallest, lowest, isBest, bestReady, election}
-use Rattle.rules.specs.Tables.{taskOf, queueOf}
-use Rattle.rules.specs.Validity.{shaped, countsInRange, prioritiesInRange, boundsInRange, listsInRange, operatorsInRange, holdersInRange, criteriaInRange, zeroPast, zeroPastCounts, zeroPastLengths, restRight, statesRight, oneHolder, holderReady, holderElected, lengthsRight, electedRight, timerRight, timersRight, valid}
+use Rattle.rules.specs.Tables.{taskOf, withRegion, queueOf}
+use Rattle.rules.specs.Validity.{shaped, countsInRange, prioritiesInRange, boundsInRange, listsInRange, operatorsInRange, holdersInRange, criteriaInRange, zeroPast, zeroPastCounts, zeroPastLengths, restRight, statesRight, entriesRight, oneHolder, holderReady, holderElected, lengthsRight, electedRight, timerRight, timersRight, valid}
 use Rattle.rules.specs.Fresh.{configurationInRange, freshTable, fresh}
 use Rattle.rules.specs.Refusals.{missing, wrongState, leaves, reasons, refusal}
 use Rattle.rules.specs.Timers.{later, ahead}
@@ -161,7 +162,7 @@ rows = P1 ∷ P2 ∷ P3 ∷ P4 ∷ P5 ∷ PO1 ∷ PO2 ∷ PO3 ∷ PO4 ∷ PO5 �
 
 -- to unfold this is to unfold all that the rules compute with
 computing : Unit {0}
-unfolding rowsRight right begun rightFrom sameAnswer sameEvents all every below padded met arrive cleared woken signalled waited held pairs front behind laid largest before place without smallest lowest isBest bestReady election queueOf shaped countsInRange prioritiesInRange boundsInRange listsInRange operatorsInRange holdersInRange criteriaInRange zeroPast zeroPastCounts zeroPastLengths restRight statesRight oneHolder holderReady holderElected lengthsRight electedRight timerRight timersRight valid later ahead ringing ticked configurationInRange freshTable fresh missing wrongState leaves reasons refusal effect step
+unfolding rowsRight right begun rightFrom sameAnswer sameEvents all every below padded met arrive cleared woken signalled waited held pairs front behind laid largest before place without smallest lowest isBest bestReady election queueOf shaped countsInRange prioritiesInRange boundsInRange listsInRange operatorsInRange holdersInRange criteriaInRange zeroPast zeroPastCounts zeroPastLengths restRight statesRight entriesRight oneHolder holderReady holderElected lengthsRight electedRight timerRight timersRight valid later ahead ringing ticked configurationInRange freshTable fresh missing wrongState leaves reasons refusal effect step
 computing = tt
 
 -- the one claim: antt computes every run of every row
@@ -219,3 +220,50 @@ disarms =
 pub timerRows : rowsRight (onlyOutside ∷ inRange ∷ dueThen ∷ disarms ∷ []) ≡ true
 unfolding computing
 timerRows = refl
+
+-- ---- T-04, sentence by sentence
+
+-- "Our record routine calls a helper that enters and exits the same region": it goes on protected, and the region is "free only at the
+-- matching EXIT". Region 1 has a count of its own; EXIT of it once it is free changes nothing.
+abbrev matching : List Run
+matching =
+    run
+    (says 0 ENTER 0 0 0 0 0
+    ∷ says 0 START 2 0 0 0 0
+    ∷ says 0 ENTER 0 0 0 0 0
+    ∷ says 0 ENTER 1 0 0 0 0
+    ∷ says 0 EXIT 1 0 0 0 0
+    ∷ says 0 EXIT 1 0 0 0 0
+    ∷ says 0 EXIT 0 0 0 0 0
+    ∷ says 0 EXIT 0 0 0 0 2
+    ∷ [])
+    ∷ []
+
+pub entryRows : rowsRight (matching ∷ []) ≡ true
+unfolding computing
+entryRows = refl
+
+-- calls from the fresh table on where this is said of region 0
+pub record Given : Type 0 where
+  pub region : Region
+  pub says : List Said
+
+abbrev given : ℕ → ℕ → List Said → Given
+given holder entries calls = record { region = record { holder = holder; entries = entries }; says = calls }
+
+pub rightGiven : Given → Bool
+rightGiven g = rightFrom (withRegion 0 (g .region) (begun .table)) (g .says) []
+
+-- "1 to 255": the 255th ENTER is accepted; "the 256th ENTER gets 22", that of another region doesn't, and EXIT makes room again
+abbrev lastEntries : Given
+lastEntries =
+    given 1 254
+    (says 0 ENTER 0 0 0 0 0 ∷ says 0 ENTER 0 0 0 22 0 ∷ says 0 ENTER 1 0 0 0 0 ∷ says 0 EXIT 0 0 0 0 0 ∷ says 0 ENTER 0 0 0 0 0 ∷ [])
+
+-- "A free region has count 0", and a held one has not: else the table is not valid
+abbrev wrongEntries : List Given
+wrongEntries = given 0 1 (says 0 ENTER 0 0 0 10 nobody ∷ []) ∷ given 1 0 (says 0 ENTER 0 0 0 10 nobody ∷ []) ∷ []
+
+pub entryEnds : every rightGiven (lastEntries ∷ wrongEntries) ≡ true
+unfolding computing rightGiven
+entryEnds = refl

@@ -17,7 +17,7 @@ use Rattle.rules.specs.Regions.{held, occupied, holderOf}
 use Rattle.rules.specs.Queues.{behind}
 use Rattle.rules.specs.Election.{lowest, readyAt, isBest, bestReady, election}
 use Rattle.rules.specs.Tables.{taskOf, lengthOf, boundOf, electionOf}
-use Rattle.rules.specs.Validity.{shaped, countsInRange, prioritiesInRange, boundInRange, boundsInRange, listsInRange, operatorsInRange, holdersInRange, criteriaInRange, zeroPast, zeroPastCounts, zeroPastLengths, restRight, stateRight, statesRight, oneHolder, holderReady, holderElected, lengthsRight, electedRight, timersRight, valid}
+use Rattle.rules.specs.Validity.{shaped, countsInRange, prioritiesInRange, boundInRange, boundsInRange, listsInRange, operatorsInRange, holdersInRange, criteriaInRange, zeroPast, zeroPastCounts, zeroPastLengths, restRight, stateRight, statesRight, entriesFit, entriesRight, oneHolder, holderReady, holderElected, lengthsRight, electedRight, timersRight, valid}
 use Rattle.rules.proofs.Bools.{given, shown, and-left, and-right, both, or-cases, or-first, or-second, same-test}
 use Rattle.rules.proofs.Election.{lowest-is}
 use Rattle.rules.proofs.Queues.{Sound}
@@ -39,6 +39,7 @@ pub record Rules (t : Table) : Type 0 where
   pub past-lengths : zeroPastLengths (t .length) (t .element) (t .criterion) ≡ true
   pub rest : restRight t ≡ true
   pub states : statesRight t ≡ true
+  pub entries : entriesRight (t .regions) (t .holder) (t .entries) ≡ true
   pub one-holder : oneHolder (t .regions) (t .holder) ≡ true
   pub holder-ready : holderReady (t .state) (t .holder) ≡ true
   pub holder-elected : holderElected (t .elected) (t .holder) ≡ true
@@ -49,7 +50,7 @@ pub record Rules (t : Table) : Type 0 where
 rules-of : (t : Table) → valid t ≡ true → Rules t
 unfolding valid
 rules-of t v =
-    let (a, (b, (c, (d, (e, (f, (g, (h, (i, (j, (k, (l, (m, (n, (o, (p, (q, (r, (s, u))))))))))))))))))) = given _ v in
+    let (a, (b, (c, (d, (e, (f, (g, (h, (i, (j, (k, (l, (m, (w, (n, (o, (p, (q, (r, (s, u)))))))))))))))))))) = given _ v in
     record {
       shape = a;
       counts = b;
@@ -64,6 +65,7 @@ rules-of t v =
       past-lengths = k;
       rest = l;
       states = m;
+      entries = w;
       one-holder = n;
       holder-ready = o;
       holder-elected = p;
@@ -102,12 +104,15 @@ valid-of t r =
                             (
                               r .states,
                               (
-                                r .one-holder,
+                                r .entries,
                                 (
-                                  r .holder-ready,
+                                  r .one-holder,
                                   (
-                                    r .holder-elected,
-                                    (r .lengths, (r .elected, (r .timers, tt))),
+                                    r .holder-ready,
+                                    (
+                                      r .holder-elected,
+                                      (r .lengths, (r .elected, (r .timers, tt))),
+                                    ),
                                   ),
                                 ),
                               ),
@@ -182,6 +187,10 @@ regionFits regions v i h = isZero h || (ltb i regions && eqb h v)
 unfoldable pub regionsRight : ℕ → ℕ → List ℕ → Bool
 regionsRight regions v holders = below regionRoom (λ i. regionFits regions v i (getD holders i 0))
 
+-- each region's count fits its holder, also past the count of regions, where both are 0
+unfoldable pub entriesEverywhere : List ℕ → List ℕ → Bool
+entriesEverywhere holders entries = below regionRoom (λ i. entriesFit (getD holders i 0) (getD entries i 0))
+
 -- the holder, if there is one, is a task that is ready
 unfoldable pub holderRight : ℕ → List ℕ → ℕ → Bool
 holderRight tasks states v = isZero v || (leb v tasks && readyAt states (v - 1))
@@ -202,6 +211,7 @@ pub record Parts (t : Table) : Type 0 where
   pub counts : countsInRange (t .tasks) (t .regions) (t .queues) ≡ true
   pub tasks : tasksRight (t .tasks) (t .priority) (t .state) (t .arrived) (t .list) (t .operator) ≡ true
   pub regions : regionsRight (t .regions) (held (t .holder)) (t .holder) ≡ true
+  pub entries : entriesEverywhere (t .holder) (t .entries) ≡ true
   pub holder : holderRight (t .tasks) (t .state) (held (t .holder)) ≡ true
   pub queues : queuesRight (t .queues) (t .bound) (t .length) (t .element) (t .criterion) ≡ true
   pub criteria : criteriaInRange (t .criterion) ≡ true
@@ -264,6 +274,17 @@ module _ (t : Table) (r : Rules t) where
       go i k true e = rw e (within-at _ _ _ i (r .one-holder) (ltb-true i (t .regions) e) k)
       go i k false e = or-first _ _ (past-at _ _ _ i (given _ (r .past-counts) .1 .1 .1 .1 .1 .0) (ltb-false i (t .regions) e) k)
 
+  entries-gathered : entriesEverywhere (t .holder) (t .entries) ≡ true
+  unfolding entriesEverywhere entriesRight zeroPast zeroPastCounts
+  entries-gathered = below-all _ regionRoom (λ i k. go i k (ltb i (t .regions)) refl)
+    where
+      go : (i : ℕ) → i < regionRoom → (b : Bool) → ltb i (t .regions) ≡ b → entriesFit (getD (t .holder) i 0) (getD (t .entries) i 0) ≡ true
+      go i k true e = within-at _ _ _ i (r .entries) (ltb-true i (t .regions) e) k
+      go i k false e =
+          let l = ltb-false i (t .regions) e in
+          let past = given _ (r .past-counts) .1 .1 .1 .1 .1 in
+          rw (past-at _ _ _ i (past .0) l k) (past-at _ _ _ i (past .1 .0) l k)
+
   queues-gathered : queuesRight (t .queues) (t .bound) (t .length) (t .element) (t .criterion) ≡ true
   unfolding queuesRight queueRight boundFits boundsInRange lengthsRight zeroPast zeroPastCounts zeroPastLengths
   queues-gathered = below-all _ queueRoom (λ q k. both (go q k (ltb q (t .queues)) refl) (below-at _ queueRoom q (r .past-lengths) k))
@@ -276,7 +297,7 @@ module _ (t : Table) (r : Rules t) where
       go q k false e =
           let l = ltb-false q (t .queues) e in
           let past = given _ (r .past-counts) in
-          rw e (both (past-at _ _ _ q (past .1 .1 .1 .1 .1 .1 .0) l k) (past-at _ _ _ q (past .1 .1 .1 .1 .1 .1 .1 .0) l k))
+          rw e (both (past-at _ _ _ q (past .1 .1 .1 .1 .1 .1 .1 .0) l k) (past-at _ _ _ q (past .1 .1 .1 .1 .1 .1 .1 .1 .0) l k))
 
 -- ---- what the tasks' part says of one task
 
@@ -320,6 +341,7 @@ parts-of t v =
       counts = r .counts;
       tasks = tasks-gathered t r;
       regions = regions-gathered t r;
+      entries = entries-gathered t r;
       holder = go (isZero (held (t .holder))) refl;
       queues = queues-gathered t r;
       criteria = r .criteria;
@@ -343,7 +365,7 @@ module _ (t : Table) (p : Parts t) where
   behind-count : (i : ℕ) → t .tasks ≤ i → i < taskRoom → zeroAt t i ≡ true
   behind-count = row-zero t (p .tasks)
 
-  region-fits : (i : ℕ) → i < regionRoom → regionFits (t .regions) (held (t .holder)) i (getD (t .holder) i 0) ≡ true
+  pub region-fits : (i : ℕ) → i < regionRoom → regionFits (t .regions) (held (t .holder)) i (getD (t .holder) i 0) ≡ true
   unfolding regionsRight
   region-fits i k = below-at _ regionRoom i (p .regions) k
 
@@ -391,6 +413,14 @@ module _ (t : Table) (p : Parts t) where
       let h = getD (t .holder) i 0 in
       ⊎-elim (λ z. z) (λ w. absurd (false≢true (sym (le-ltb i (t .regions) l) ∙ and-left _ _ w))) (or-cases (isZero h) _ (region-fits i k))
 
+  pub entries-fit : (i : ℕ) → i < regionRoom → entriesFit (getD (t .holder) i 0) (getD (t .entries) i 0) ≡ true
+  unfolding entriesEverywhere
+  entries-fit i k = below-at _ regionRoom i (p .entries) k
+
+  -- a free region's count is 0
+  uncounted : (i : ℕ) → t .regions ≤ i → i < regionRoom → isZero (getD (t .entries) i 0) ≡ true
+  uncounted i l k = simp (free-past i l k) at (entries-fit i k)
+
   holder-is-ready : holderReady (t .state) (t .holder) ≡ true
   unfolding holderReady holderRight
   holder-is-ready =
@@ -406,7 +436,7 @@ module _ (t : Table) (p : Parts t) where
       go false e = rw e refl
 
   rules-gathered : Rules t
-  unfolding prioritiesInRange boundsInRange listsInRange operatorsInRange holdersInRange zeroPast zeroPastCounts zeroPastLengths restRight statesRight oneHolder lengthsRight electedRight rowZero queueRight
+  unfolding prioritiesInRange boundsInRange listsInRange operatorsInRange holdersInRange zeroPast zeroPastCounts zeroPastLengths restRight statesRight entriesRight oneHolder lengthsRight electedRight rowZero queueRight
   rules-gathered =
       record {
         shape = p .shape;
@@ -432,8 +462,11 @@ module _ (t : Table) (p : Parts t) where
                       (
                         past-all _ _ _ free-past,
                         (
-                          past-all _ _ _ (λ q l k. and-left _ _ (unused q l k)),
-                          (past-all _ _ _ (λ q l k. and-right (isZero (boundOf t q)) _ (unused q l k)), tt),
+                          past-all _ _ _ uncounted,
+                          (
+                            past-all _ _ _ (λ q l k. and-left _ _ (unused q l k)),
+                            (past-all _ _ _ (λ q l k. and-right (isZero (boundOf t q)) _ (unused q l k)), tt),
+                          ),
                         ),
                       ),
                     ),
@@ -444,6 +477,7 @@ module _ (t : Table) (p : Parts t) where
         past-lengths = below-all _ queueRoom (λ q k. and-right (boundFits (t .queues) q (boundOf t q) (lengthOf t q)) _ (queue-fits q k));
         rest = within-all _ _ _ (λ i l k. right i l k .rest);
         states = within-all _ _ _ (λ i l k. right i l k .state-right);
+        entries = within-all _ _ _ (λ i l k. entries-fit i k);
         one-holder = within-all _ _ _ (λ i l k. same-holder i k);
         holder-ready = holder-is-ready;
         holder-elected = holder-is-elected;
@@ -461,6 +495,7 @@ checks t =
     countsInRange (t .tasks) (t .regions) (t .queues)
     ∷ tasksRight (t .tasks) (t .priority) (t .state) (t .arrived) (t .list) (t .operator)
     ∷ regionsRight (t .regions) (held (t .holder)) (t .holder)
+    ∷ entriesEverywhere (t .holder) (t .entries)
     ∷ holderRight (t .tasks) (t .state) (held (t .holder))
     ∷ queuesRight (t .queues) (t .bound) (t .length) (t .element) (t .criterion)
     ∷ criteriaInRange (t .criterion)
@@ -473,11 +508,11 @@ valid-is t s =
     same-test (valid t) (all (checks t))
     (λ v.
     let p = parts-of t v in
-    shown (checks t) (p .counts, (p .tasks, (p .regions, (p .holder, (p .queues, (p .criteria, (eq-eqb _ _ (p .elected), (p .timers, tt)))))))))
+    shown (checks t) (p .counts, (p .tasks, (p .regions, (p .entries, (p .holder, (p .queues, (p .criteria, (eq-eqb _ _ (p .elected), (p .timers, tt))))))))))
     (λ h.
-    let (a, (b, (c, (d, (e, (f, (g, (i, j)))))))) = given (checks t) h in
+    let (a, (b, (c, (w, (d, (e, (f, (g, (i, j))))))))) = given (checks t) h in
     valid-parts t
-    (record { shape = s; counts = a; tasks = b; regions = c; holder = d; queues = e; criteria = f; elected = eqb-true _ _ g; timers = i }))
+    (record { shape = s; counts = a; tasks = b; regions = c; entries = w; holder = d; queues = e; criteria = f; elected = eqb-true _ _ g; timers = i }))
 
 -- ---- a law for the class: in a valid table no task waits with its condition met
 
@@ -504,7 +539,7 @@ counts-fit tasks regions queues h =
 pub sound : (t : Table) → Parts t → (q : ℕ) → q < queueRoom → Sound t q
 unfolding shaped queueRight boundFits
 sound t p q k =
-    let (a, (b, (c, (d, (e, (f, (g, (h, (i, (j, rest)))))))))) = given _ (p .shape) in
+    let (a, (b, (c, (d, (e, (f, (w, (g, (h, (i, (j, rest))))))))))) = given _ (p .shape) in
     let lengths = eqb-true (length (t .length)) queueRoom h in
     let elements = eqb-true (length (t .element)) storeSize i in
     let criteria = eqb-true (length (t .criterion)) storeSize j in

@@ -12,7 +12,7 @@ use Rattle.rules.specs.Tasks.{asStarted, asStopped, signalled, waited, a
 use Rattle.rules.specs.Regions.{entered, exited}
 use Rattle.rules.specs.Queues.{Pair, pair, noPair, place, without}
 use Rattle.rules.specs.Timers.{later, asArmed, disarmed, isDue, rung}
-use Rattle.rules.specs.Tables.{taskOf, changed, withTimers, withHolders, queueOf, withQueue}
+use Rattle.rules.specs.Tables.{taskOf, regionOf, changed, withTimers, withRegion, queueOf, withQueue}
 
 -- the table, the status (0, or 1 for a WAIT that waits) and the pair that RETRIEVE gives
 pub record Effect : Type 0 where
@@ -57,13 +57,13 @@ wait t c =
 abbrev pub clear : Table → Call → Effect
 clear t c = plain (changed (c .caller) (asCleared (c .a)) t)
 
--- "caller becomes holder; nothing changes if it is already"
+-- "caller becomes holder"; "a region counts its entries"
 abbrev pub enter : Table → Call → Effect
-enter t c = plain (withHolders (altered (c .a) (entered (c .caller)) (t .holder)) t)
+enter t c = plain (withRegion (c .a) (entered (c .caller) (regionOf t (c .a))) t)
 
--- "region becomes free; nothing changes if the caller doesn't hold it"
+-- the region "is free only at the matching EXIT"; "nothing changes if the caller doesn't hold it"
 abbrev pub exit : Table → Call → Effect
-exit t c = plain (withHolders (altered (c .a) (exited (c .caller)) (t .holder)) t)
+exit t c = plain (withRegion (c .a) (exited (c .caller) (regionOf t (c .a))) t)
 
 -- "element added"
 abbrev pub send : Table → Call → Effect

@@ -20,6 +20,10 @@ listEnd = 65536
 abbrev pub regionRoom : ℕ
 regionRoom = 16
 
+-- "a region counts its entries, 1 to 255"
+abbrev pub mostEntries : ℕ
+mostEntries = 255
+
 -- "Queues: 0 to 8"
 abbrev pub queueRoom : ℕ
 queueRoom = 8

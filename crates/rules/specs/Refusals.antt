@@ -7,7 +7,7 @@ use lib.ListN.{getD, length}
 use Rattle.rules.specs.declared.Timer.{Timer}
 use Rattle.rules.specs.declared.Table.{Table}
 use Rattle.rules.specs.declared.Call.{Call}
-use Rattle.rules.specs.Numbers.{eventEnd, criterionEnd, largestPresent, timerRoom, longestDelay, outside, SIGNAL, WAIT, SEND, RETRIEVE, TICK}
+use Rattle.rules.specs.Numbers.{eventEnd, mostEntries, criterionEnd, largestPresent, timerRoom, longestDelay, outside, SIGNAL, WAIT, ENTER, SEND, RETRIEVE, TICK}
 use Rattle.rules.specs.Words.{isZero, byOperation, Reason, when, first}
 use Rattle.rules.specs.Tasks.{stopped}
 use Rattle.rules.specs.Regions.{occupied}
@@ -30,7 +30,7 @@ notElected elected caller = not (eqb caller outside) && not (eqb caller elected)
 abbrev pub tickByTask : Call → Bool
 tickByTask c = eqb (c .operation) TICK && not (eqb (c .caller) outside)
 
--- ---- 14: "a task, event, region, queue or criterion that doesn't exist; an event list of 0 or above 65535"
+-- ---- 14: "a task, event, region, queue or criterion that doesn't exist; an event list of 0 or above 65535"; "14 covers timer and delay"
 
 -- a number at or past the count: of tasks, events, regions, queues, criteria
 abbrev pub absent : ℕ → ℕ → Bool
@@ -111,6 +111,12 @@ leaves c =
     -- START, STOP, END, SIGNAL, WAIT
     (false ∷ eqb (c .a) (c .caller) ∷ true ∷ false ∷ true ∷ [])
 
+-- ---- 22: "The 256th ENTER gets 22, checked after 16"
+
+-- the region's count is at its end
+abbrev pub entriesFull : List ℕ → ℕ → Bool
+entriesFull entries r = eqb (getD entries r 0) mostEntries
+
 -- ---- the list of a call: the rows of the status table, in its order
 
 unfoldable pub reasons : Table → Call → List Reason
@@ -126,6 +132,7 @@ reasons t c =
     ∷ when 16 (leaves c && occupied (t .holder))
     ∷ when 17 (eqb (c .operation) SEND && leb (boundOf t (c .a)) (length (queueOf t (c .a))))
     ∷ when 18 (eqb (c .operation) RETRIEVE && noneFits (c .c) (queueOf t (c .a)))
+    ∷ when 22 (eqb (c .operation) ENTER && entriesFull (t .entries) (c .a))
     ∷ []
 
 -- ---- the lists of the queries: "ARRIVED uses 10, 12, 14, 19, and 12 for caller 255; the other queries have no caller and use 10 and 14"

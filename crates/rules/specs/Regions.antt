@@ -1,8 +1,9 @@
--- Regions: "a region is free or has one holder". Stored: 0 where it is free, else the holder's number plus 1.
+-- Regions: "a region is free or has one holder". Stored: 0 where it is free, else the holder's number plus 1. "A region counts its entries".
 use Prim.Native.Nat.{ℕ, suc, _-_}
 use mathlib.Core.Bool.{Bool, cond, not}
 use mathlib.Core.List.{List, [], _∷_}
 use lib.Dec.{eqb}
+use Rattle.rules.specs.declared.Region.{Region}
 use Rattle.rules.specs.Words.{isZero}
 
 -- the first occupied region's entry; 0 where every region is free
@@ -18,10 +19,17 @@ occupied holders = not (isZero (held holders))
 abbrev pub holderOf : List ℕ → ℕ
 holderOf holders = held holders - 1
 
--- ENTER: "caller becomes holder; nothing changes if it is already"
-abbrev pub entered : ℕ → ℕ → ℕ
-entered caller h = suc caller
+-- ENTER: "caller becomes holder"; "a region counts its entries"
+abbrev pub entered : ℕ → Region → Region
+entered caller r = record { holder = suc caller; entries = suc (r .entries) }
 
--- EXIT: "region becomes free; nothing changes if the caller doesn't hold it"
-abbrev pub exited : ℕ → ℕ → ℕ
-exited caller h = cond (eqb h (suc caller)) 0 h
+-- one entry less; "free only at the matching EXIT", which is that of the first entry
+abbrev pub countedDown : Region → Region
+countedDown r = record { holder = cond (eqb (r .entries) 1) 0 (r .holder); entries = r .entries - 1 }
+
+abbrev pub heldBy : ℕ → Region → Bool
+heldBy task r = eqb (r .holder) (suc task)
+
+-- EXIT: "nothing changes if the caller doesn't hold it"
+abbrev pub exited : ℕ → Region → Region
+exited caller r = cond (heldBy caller r) (countedDown r) r

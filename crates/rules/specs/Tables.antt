@@ -3,6 +3,7 @@ use Prim.Native.Nat.{ℕ}
 use mathlib.Core.List.{List}
 use lib.ListN.{getD, set, length}
 use Rattle.rules.specs.declared.Task.{Task}
+use Rattle.rules.specs.declared.Region.{Region}
 use Rattle.rules.specs.declared.Timer.{Timer}
 use Rattle.rules.specs.declared.Table.{Table}
 use Rattle.rules.specs.Queues.{Pair, pairs, elements, criteria, front, laid}
@@ -18,6 +19,10 @@ taskOf t i =
       list = getD (t .list) i 0;
       operator = getD (t .operator) i 0;
     }
+
+-- what they say of region i
+abbrev pub regionOf : Table → ℕ → Region
+regionOf t i = record { holder = getD (t .holder) i 0; entries = getD (t .entries) i 0 }
 
 abbrev pub timerOf : Table → ℕ → Timer
 timerOf t i = getD (t .timers) i idle
@@ -46,6 +51,7 @@ withTask i r t =
       list = set (t .list) i (r .list);
       operator = set (t .operator) i (r .operator);
       holder = t .holder;
+      entries = t .entries;
       bound = t .bound;
       length = t .length;
       element = t .element;
@@ -54,8 +60,9 @@ withTask i r t =
       timers = t .timers;
     }
 
-abbrev pub withHolders : List ℕ → Table → Table
-withHolders holders t =
+-- the table where the columns say this of region i
+abbrev pub withRegion : ℕ → Region → Table → Table
+withRegion i r t =
     record {
       tasks = t .tasks;
       regions = t .regions;
@@ -66,7 +73,8 @@ withHolders holders t =
       arrived = t .arrived;
       list = t .list;
       operator = t .operator;
-      holder = holders;
+      holder = set (t .holder) i (r .holder);
+      entries = set (t .entries) i (r .entries);
       bound = t .bound;
       length = t .length;
       element = t .element;
@@ -88,6 +96,7 @@ withElected who t =
       list = t .list;
       operator = t .operator;
       holder = t .holder;
+      entries = t .entries;
       bound = t .bound;
       length = t .length;
       element = t .element;
@@ -110,6 +119,7 @@ withQueue q queue t =
       list = t .list;
       operator = t .operator;
       holder = t .holder;
+      entries = t .entries;
       bound = t .bound;
       length = set (t .length) q (length queue);
       element = laid q (elements queue) (t .element);
@@ -132,6 +142,7 @@ withTimers ticks timers t =
       list = t .list;
       operator = t .operator;
       holder = t .holder;
+      entries = t .entries;
       bound = t .bound;
       length = t .length;
       element = t .element;

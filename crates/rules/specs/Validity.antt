@@ -6,7 +6,7 @@ use lib.Dec.{ltb, eqb, leb}
 use lib.ListN.{getD, length}
 use Rattle.rules.specs.declared.Timer.{Timer}
 use Rattle.rules.specs.declared.Table.{Table}
-use Rattle.rules.specs.Numbers.{taskRoom, priorityEnd, listEnd, regionRoom, queueRoom, places, storeSize, criterionEnd, eventEnd, timerRoom, tickEnd, longestDelay}
+use Rattle.rules.specs.Numbers.{taskRoom, priorityEnd, listEnd, regionRoom, mostEntries, queueRoom, places, storeSize, criterionEnd, eventEnd, timerRoom, tickEnd, longestDelay}
 use Rattle.rules.specs.Words.{isZero, all, every, below, within, past}
 use Rattle.rules.specs.Events.{met}
 use Rattle.rules.specs.Tasks.{stopped, isWaiting}
@@ -25,6 +25,7 @@ shaped t =
     ∷ eqb (length (t .list)) taskRoom
     ∷ eqb (length (t .operator)) taskRoom
     ∷ eqb (length (t .holder)) regionRoom
+    ∷ eqb (length (t .entries)) regionRoom
     ∷ eqb (length (t .bound)) queueRoom
     ∷ eqb (length (t .length)) queueRoom
     ∷ eqb (length (t .element)) storeSize
@@ -82,6 +83,7 @@ zeroPastCounts t =
     ∷ zeroPast (t .tasks) taskRoom (t .list)
     ∷ zeroPast (t .tasks) taskRoom (t .operator)
     ∷ zeroPast (t .regions) regionRoom (t .holder)
+    ∷ zeroPast (t .regions) regionRoom (t .entries)
     ∷ zeroPast (t .queues) queueRoom (t .bound)
     ∷ zeroPast (t .queues) queueRoom (t .length)
     ∷ [])
@@ -114,6 +116,13 @@ statesRight t =
     (λ i. stateRight (taskOf t i .state) (taskOf t i .arrived) (taskOf t i .list) (taskOf t i .operator))
 
 -- ---- "A region is free or has one holder. All occupied regions have the same holder, which is ready and is the elected task."
+
+-- "A region counts its entries, 1 to 255"; "a free region has count 0"
+abbrev pub entriesFit : ℕ → ℕ → Bool
+entriesFit holder entries = cond (isZero holder) (isZero entries) (ltb 0 entries && leb entries mostEntries)
+
+unfoldable pub entriesRight : ℕ → List ℕ → List ℕ → Bool
+entriesRight regions holders entries = within regions regionRoom (λ r. entriesFit (getD holders r 0) (getD entries r 0))
 
 unfoldable pub oneHolder : ℕ → List ℕ → Bool
 oneHolder regions holders =
@@ -167,6 +176,7 @@ valid t =
     ∷ zeroPastLengths (t .length) (t .element) (t .criterion)
     ∷ restRight t
     ∷ statesRight t
+    ∷ entriesRight (t .regions) (t .holder) (t .entries)
     ∷ oneHolder (t .regions) (t .holder)
     ∷ holderReady (t .state) (t .holder)
     ∷ holderElected (t .elected) (t .holder)

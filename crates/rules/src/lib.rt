@@ -32,9 +32,16 @@ pub struct Timer {
     pub date: u32,
 }
 
+// What is said of a region: `holder` is 0 where it is free, else the holder's number plus 1; `entries` is how often the holder has
+// entered it and not yet left.
+pub struct Region {
+    pub holder: u8,
+    pub entries: u8,
+}
+
 // The executive's whole state. Tasks stand in columns, an array for each thing said of a task, so that a check goes through one at a
-// time and a function can be lent just those that it reads. A region's `holder` is 0 where it is free, else the holder's number plus 1.
-// Queue q has places 64 q to 64 q + 63 of the flat store, oldest element first.
+// time and a function can be lent just those that it reads; regions likewise. Queue q has places 64 q to 64 q + 63 of the flat store,
+// oldest element first.
 pub struct Table {
     pub tasks: u8,
     pub regions: u8,
@@ -46,6 +53,7 @@ pub struct Table {
     pub list: [u16; TASKS],
     pub operator: [u8; TASKS],
     pub holder: [u8; REGIONS],
+    pub entries: [u8; REGIONS],
     pub bound: [u8; QUEUES],
     pub length: [u8; QUEUES],
     pub element: [u32; STORE],

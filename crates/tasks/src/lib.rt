@@ -9,6 +9,7 @@ pub use check::tasks_right;
 pub use condition::met_by;
 pub use elect::best_ready;
 pub use elect::elected_by;
+pub use regions::entries_right;
 pub use regions::held_by;
 pub use regions::holder_right;
 pub use regions::regions_right;

@@ -1,8 +1,9 @@
-// Regions and their holder: who holds, whether all occupied regions agree, whether the holder is a ready task.
+// Regions and their holder: who holds, whether all occupied regions agree, whether each count fits, whether the holder is a ready task.
 ghost use mathlib.Core.Path.{_≡_};
 ghost use lib.ListN.{length};
 ghost use Rattle.rules.specs.Regions.{held};
-ghost use Rattle.rules.proofs.Validity.{regionFits, regionsRight, holderRight};
+ghost use Rattle.rules.specs.Validity.{entriesFit};
+ghost use Rattle.rules.proofs.Validity.{regionFits, regionsRight, entriesEverywhere, holderRight};
 
 // The first occupied region's entry, 0 where all are free.
 pub fn held_by(holder: &[u8; 16]) -> u8
@@ -31,6 +32,27 @@ pub fn regions_right(regions: u8, v: u8, holder: &[u8; 16]) -> bool
     let mut ok = true;
     for i in 0..16 {
         let fits = region_fits(regions, v, i, holder[i]);
+        ok = ok & fits;
+    }
+    ok
+}
+
+// Free and not counted, or held and counted. That a count is at most 255 is in its type.
+fn entries_fit(h: u8, n: u8) -> bool
+    ensures { λ r. ⌜ r ≡ entriesFit h n ⌝ }
+{
+    ((h == 0) & (n == 0)) | (!(h == 0) & !(n == 0))
+}
+
+// Every region's count fits its holder.
+pub fn entries_right<'a>(holder: &'a [u8; 16], entries: &'a [u8; 16]) -> bool
+    requires { ⌜ length (now holder) ≡ 16 ⌝ }
+    requires { ⌜ length (now entries) ≡ 16 ⌝ }
+    ensures { λ r. ⌜ r ≡ entriesEverywhere (now (holder .entry)) (now (entries .entry)) ⌝ }
+{
+    let mut ok = true;
+    for i in 0..16 {
+        let fits = entries_fit(holder[i], entries[i]);
         ok = ok & fits;
     }
     ok

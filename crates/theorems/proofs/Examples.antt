@@ -14,7 +14,7 @@ use Rattle.rules.specs.Regions.{held}
 use Rattle.rules.specs.Queues.{pairs, front, behind as behindFront, laid, largest, before as beforeFirst, place, without}
 use Rattle.rules.specs.Election.{smallest, lowest, isBest, bestReady, election}
 use Rattle.rules.specs.Tables.{queueOf}
-use Rattle.rules.specs.Validity.{shaped, countsInRange, prioritiesInRange, boundsInRange, listsInRange, operatorsInRange, holdersInRange, criteriaInRange, zeroPast, zeroPastCounts, zeroPastLengths, restRight, statesRight, oneHolder, holderReady, holderElected, lengthsRight, electedRight, timerRight, timersRight, valid}
+use Rattle.rules.specs.Validity.{shaped, countsInRange, prioritiesInRange, boundsInRange, listsInRange, operatorsInRange, holdersInRange, criteriaInRange, zeroPast, zeroPastCounts, zeroPastLengths, restRight, statesRight, entriesRight, oneHolder, holderReady, holderElected, lengthsRight, electedRight, timerRight, timersRight, valid}
 use Rattle.rules.specs.Fresh.{freshTable, zeroTable}
 use Rattle.rules.specs.Refusals.{missing, wrongState, leaves, reasons, refusal}
 use Rattle.rules.specs.Timers.{later, ahead}
@@ -27,7 +27,7 @@ use Rattle.theorems.specs.Examples.{begun, by, Premise, SameEnd, countin
 
 -- to unfold this is to unfold all that the rules compute with
 rules : Unit {0}
-unfolding all every below padded met arrive woken signalled waited held pairs front behindFront laid largest beforeFirst place without smallest lowest isBest bestReady election queueOf shaped countsInRange prioritiesInRange boundsInRange listsInRange operatorsInRange holdersInRange criteriaInRange zeroPast zeroPastCounts zeroPastLengths restRight statesRight oneHolder holderReady holderElected lengthsRight electedRight timerRight timersRight valid later ahead ringing ticked freshTable missing wrongState leaves reasons refusal effect step zeroTable
+unfolding all every below padded met arrive woken signalled waited held pairs front behindFront laid largest beforeFirst place without smallest lowest isBest bestReady election queueOf shaped countsInRange prioritiesInRange boundsInRange listsInRange operatorsInRange holdersInRange criteriaInRange zeroPast zeroPastCounts zeroPastLengths restRight statesRight entriesRight oneHolder holderReady holderElected lengthsRight electedRight timerRight timersRight valid later ahead ringing ticked freshTable missing wrongState leaves reasons refusal effect step zeroTable
 rules = tt
 
 firstStatus : List Reply → ℕ

@@ -9,7 +9,7 @@ use lib.Dec.{eqb, ltb}
 use lib.ListN.{getD, length, take, replicate, length-take, getD-replicate}
 use borrow.Author.Tests.{eq-eqb, ltb-true, ltb-false, leb-true, le-leb}
 use Rattle.rules.specs.Numbers.{taskRoom, priorityEnd, regionRoom, queueRoom, places, storeSize, timerRoom}
-use Rattle.rules.specs.Words.{isZero, all, every, padded}
+use Rattle.rules.specs.Words.{isZero, all, every, below, padded}
 use Rattle.rules.specs.Tasks.{stopped, ready}
 use Rattle.rules.specs.Regions.{held}
 use Rattle.rules.specs.Queues.{firstPlace, behind}
@@ -21,7 +21,7 @@ use Rattle.rules.proofs.Bools.{given, shown, both, or-second}
 use Rattle.rules.proofs.Counts.{below-all}
 use Rattle.rules.proofs.Lists.{every-in, every-take, every-drop, every-replicate, length-padded, padded-at, padded-past}
 use Rattle.rules.proofs.Election.{Wins, wins-alone, best-wins, election-free}
-use Rattle.rules.proofs.Validity.{rowFits, rowZero, row-shown, tasksRight, holderRight, boundFits, queueRight, queuesRight, Parts, valid-parts, counts-fit}
+use Rattle.rules.proofs.Validity.{rowFits, rowZero, row-shown, tasksRight, entriesEverywhere, holderRight, boundFits, queueRight, queuesRight, Parts, valid-parts, counts-fit}
 use Rattle.rules.proofs.Clock.{idle-right, timers-shown}
 use Rattle.theorems.specs.Kept.{FreshValid, ZerosInvalid}
 use Rattle.theorems.proofs.Regions.{free-fits}
@@ -182,17 +182,18 @@ module _ (tasks regions queues : ℕ) (priorities bounds : List ℕ) (r : Range 
           only (suc i) h = absurd (false≢true (rw (state-past (suc i) (omega arith)) at h))
 
   fresh-parts : Parts (freshTable tasks regions queues priorities bounds)
-  unfolding freshTable shaped held holderRight criteriaInRange priority bound states zeros store padded
+  unfolding freshTable shaped held entriesEverywhere below holderRight criteriaInRange priority bound states zeros store padded
   fresh-parts =
       record {
         shape =
             shown _ (
               eq-eqb _ _ (column-length taskRoom tasks priorities (r .tasks-room) (r .priorities-long)),
-              (refl, (refl, (refl, (refl, (refl, (eq-eqb _ _ (column-length queueRoom queues bounds (r .queues-room) (r .bounds-long)), (refl, (refl, (refl, (refl, tt)))))))))),
+              (refl, (refl, (refl, (refl, (refl, (refl, (eq-eqb _ _ (column-length queueRoom queues bounds (r .queues-room) (r .bounds-long)), (refl, (refl, (refl, (refl, tt))))))))))),
             );
         counts = r .counts;
         tasks = tasks-fit;
         regions = free-fits regions 0 (replicate regionRoom 0) refl;
+        entries = refl;
         holder = refl;
         queues = queues-fit;
         criteria = every-replicate criterionInRange storeSize 0 refl;

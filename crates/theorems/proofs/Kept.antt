@@ -14,7 +14,7 @@ use Rattle.rules.specs.declared.Call.{Call}
 use Rattle.rules.specs.Numbers.{listEnd, eventEnd, criterionEnd, timerRoom, longestDelay, nobody, outside}
 use Rattle.rules.specs.Words.{isZero, byOperation}
 use Rattle.rules.specs.Tasks.{isStopped, isReady, asStarted, asStopped, signalled, waited, asCleared}
-use Rattle.rules.specs.Regions.{held, entered, exited}
+use Rattle.rules.specs.Regions.{held}
 use Rattle.rules.specs.Queues.{place}
 use Rattle.rules.specs.Timers.{disarmed}
 use Rattle.rules.specs.Election.{readyAt, priorityAt}
@@ -30,7 +30,7 @@ use Rattle.rules.proofs.Refusals.{Accepted, accepted-facts}
 use Rattle.rules.proofs.Effects.{each-effect}
 use Rattle.theorems.specs.Kept.{ValidKept, ValidAfter, RefusedSame}
 use Rattle.theorems.proofs.Rows.{Fits, started-fits, stopped-fits, waited-fits, cleared-fits, signalled-fits, waited-awake, below-room, timers-awake, timers-stopped, keep-task}
-use Rattle.theorems.proofs.Regions.{holder-elected, enter-fits, exit-fits, keep-holders}
+use Rattle.theorems.proofs.Regions.{holder-elected, enter-right, exit-right, keep-region}
 use Rattle.theorems.proofs.Queues.{keep-send, keep-retrieve, queue-short}
 use Rattle.theorems.proofs.Timers.{keep-arm, keep-disarm, keep-tick}
 
@@ -146,14 +146,14 @@ module _ (t : Table) (p : Parts t) where
     enter-keeps o =
         let w = caller-of t (c .caller) (o .barred) (o .not-elected) in
         let l = there (t .regions) (c .a) (o .nothing-missing) in
-        valid-parts _ (keep-holders t p (c .caller) (w .is) (w .one) (c .a) (entered (c .caller)) l (λ h g. enter-fits (t .regions) (c .a) (c .caller) h l))
+        valid-parts _ (keep-region t p (c .caller) (w .is) (w .one) (c .a) _ l (enter-right t p (c .caller) (w .is) (w .one) (c .a) l (o .may-enter)))
 
     exit-keeps : Keeps 7
     unfolding missing
     exit-keeps o =
         let w = caller-of t (c .caller) (o .barred) (o .not-elected) in
         let l = there (t .regions) (c .a) (o .nothing-missing) in
-        valid-parts _ (keep-holders t p (c .caller) (w .is) (w .one) (c .a) (exited (c .caller)) l (exit-fits (t .regions) (c .a) (c .caller)))
+        valid-parts _ (keep-region t p (c .caller) (w .is) (w .one) (c .a) _ l (exit-right t p (c .caller) (w .is) (w .one) (c .a) l))
 
     send-keeps : Keeps 8
     unfolding missing

@@ -77,6 +77,7 @@ module _ (t : Table) (p : Parts t) (q : ℕ) (l : q < t .queues) where
           counts = p .counts;
           tasks = p .tasks;
           regions = p .regions;
+          entries = p .entries;
           holder = p .holder;
           queues = queues-kept;
           criteria = every-laid criterionInRange q (criteria queue) (t .criterion) refl (p .criteria) small;

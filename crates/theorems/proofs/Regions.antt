@@ -1,4 +1,4 @@
--- One holder, before and after ENTER and EXIT: every region is free or the caller's.
+-- One holder, before and after ENTER and EXIT: every region is free or the caller's, and its count fits.
 use Prim.Native.Nat.{ℕ, suc, _-_, _<_, _≤_}
 use mathlib.Core.Path.{_≡_, refl, sym, _∙_}
 use mathlib.Core.Logic.{_≢_, _⊎_, inl, inr, ⊎-elim}
@@ -6,20 +6,23 @@ use mathlib.Core.Bool.{Bool, true, false}
 use mathlib.Core.List.{List}
 use native.Mathlib.Omega.{arith}
 use lib.Dec.{eqb, ltb, leb}
-use lib.ListN.{getD, length}
+use lib.ListN.{getD, set, length, length-set}
+use lib.Seq.{getD-set-same, getD-set-other}
 use borrow.Author.Tests.{eqb-true, eqb-false, eq-eqb, lt-ltb, le-leb}
+use Rattle.rules.specs.declared.Region.{Region}
 use Rattle.rules.specs.declared.Table.{Table}
-use Rattle.rules.specs.Numbers.{regionRoom, nobody}
-use Rattle.rules.specs.Words.{isZero, altered}
-use Rattle.rules.specs.Regions.{held, occupied, holderOf, entered, exited}
-use Rattle.rules.specs.Tables.{withHolders, settled}
-use Rattle.rules.specs.Validity.{shaped}
-use Rattle.rules.proofs.Bools.{given, and-right, both, or-cases, or-first, or-second, not-intro}
+use Rattle.rules.specs.Numbers.{regionRoom, mostEntries, nobody}
+use Rattle.rules.specs.Words.{isZero}
+use Rattle.rules.specs.Regions.{held, occupied, holderOf, entered, heldBy, exited}
+use Rattle.rules.specs.Tables.{regionOf, withRegion, settled}
+use Rattle.rules.specs.Validity.{shaped, entriesFit}
+use Rattle.rules.specs.Refusals.{entriesFull}
+use Rattle.rules.proofs.Bools.{and-right, both, or-cases, or-first, or-second, not-intro}
 use Rattle.rules.proofs.Counts.{below-at, below-all}
-use Rattle.rules.proofs.Lists.{altered-here, altered-other, length-altered}
 use Rattle.rules.proofs.Election.{election-held}
 use Rattle.rules.proofs.Regions.{held-at, held-free}
-use Rattle.rules.proofs.Validity.{regionFits, regionsRight, holderRight, Parts, counts-fit, elected-ready, elected-below}
+use Rattle.rules.proofs.Entries.{entries-most, entries-some, entries-shown, regions-long}
+use Rattle.rules.proofs.Validity.{regionFits, regionsRight, entriesEverywhere, holderRight, Parts, counts-fit, entries-fit, elected-ready, elected-below}
 
 -- ---- every region is free or has the entry v
 
@@ -43,42 +46,50 @@ module _ (regions v : ℕ) (hs : List ℕ) where
     own-fits = ⊎-elim (λ z. free-fits regions (held hs) hs z) (λ e. rw e fit) held-one
 
   -- one entry changed
-  altered-fits : (a : ℕ) (f : ℕ → ℕ) → a < length hs → ((h : ℕ) → regionFits regions v a h ≡ true → regionFits regions v a (f h) ≡ true)
-      → regionsRight regions v hs ≡ true → regionsRight regions v (altered a f hs) ≡ true
+  set-fits : (a h : ℕ) → a < length hs → regionFits regions v a h ≡ true → regionsRight regions v hs ≡ true → regionsRight regions v (set hs a h) ≡ true
   unfolding regionsRight
-  altered-fits a f l keep fit = below-all _ regionRoom (λ i k. go i k (eqb i a) refl)
+  set-fits a h l new fit = below-all _ regionRoom (λ i k. go i k (eqb i a) refl)
     where
-      go : (i : ℕ) → i < regionRoom → (b : Bool) → eqb i a ≡ b → regionFits regions v i (getD (altered a f hs) i 0) ≡ true
-      go i k true e =
-          let same = eqb-true i a e in
-          rw (same, altered-here f a 0 hs l) (keep _ (rw same at (below-at _ regionRoom i fit k)))
-      go i k false e = rw (altered-other f a i 0 hs (λ z. eqb-false i a e (sym z))) (below-at _ regionRoom i fit k)
+      go : (i : ℕ) → i < regionRoom → (b : Bool) → eqb i a ≡ b → regionFits regions v i (getD (set hs a h) i 0) ≡ true
+      go i k true e = rw (eqb-true i a e, getD-set-same hs a h 0 l) new
+      go i k false e = rw (getD-set-other hs a i h 0 (eqb-false i a e)) (below-at _ regionRoom i fit k)
 
-pub enter-fits : (regions a who h : ℕ) → a < regions → regionFits regions (suc who) a (entered who h) ≡ true
-unfolding regionFits
-enter-fits regions a who h l = or-second (isZero (suc who)) _ (both (lt-ltb a regions l) (eq-eqb (suc who) (suc who) refl))
+-- ---- one region, before and after
 
-pub exit-fits : (regions a who h : ℕ) → regionFits regions (suc who) a h ≡ true → regionFits regions (suc who) a (exited who h) ≡ true
-unfolding regionFits
-exit-fits regions a who h fit = go (eqb h (suc who)) refl
-  where
-    go : (b : Bool) → eqb h (suc who) ≡ b → regionFits regions (suc who) a (exited who h) ≡ true
-    go true e = rw e refl
-    go false e = rw e fit
+-- what is said of region a is right, where the occupied ones are v's
+abbrev pub RegionRight : ℕ → ℕ → ℕ → Region → Type 0
+RegionRight regions v a r = (regionFits regions v a (r .holder) ≡ true) × (entriesFit (r .holder) (r .entries) ≡ true)
 
--- ---- the table with the holders changed
+module _ (regions a who : ℕ) (r : Region) (right : RegionRight regions (suc who) a r) where
+  enter-fits : a < regions → r .entries ≢ mostEntries → RegionRight regions (suc who) a (entered who r)
+  unfolding regionFits
+  enter-fits l room = (
+    or-second (isZero (suc who)) _ (both (lt-ltb a regions l) (eq-eqb (suc who) (suc who) refl)),
+    entries-shown (suc who) (suc (r .entries)) (omega arith) (omega arith) (omega (arith, entries-most (r .holder) (r .entries) (right .1))),
+  )
+
+  exit-fits : RegionRight regions (suc who) a (exited who r)
+  unfolding regionFits
+  exit-fits = go (heldBy who r) (eqb (r .entries) 1) refl refl
+    where
+      go : (b c : Bool) → heldBy who r ≡ b → eqb (r .entries) 1 ≡ c → RegionRight regions (suc who) a (exited who r)
+      go false c e f = rw e right
+      go true true e f = let z : r .entries - 1 ≡ 0 = omega (arith, eqb-true (r .entries) 1 f) in rw (e, f, z) (refl, refl)
+      go true false e f =
+          let some : r .holder ≢ 0 = omega (arith, eqb-true (r .holder) (suc who) e) in
+          let more : r .entries ≢ 1 = eqb-false _ _ f in
+          let least = entries-some (r .holder) (r .entries) (right .1) some in
+          rw (e, f) (right .0, entries-shown (r .holder) (r .entries - 1) some (omega arith) (omega (arith, entries-most (r .holder) (r .entries) (right .1))))
+
+-- ---- the table with one region changed
 
 -- while a region is occupied its holder is elected
 pub holder-elected : (t : Table) → Parts t → occupied (t .holder) ≡ true → t .elected ≡ holderOf (t .holder)
 holder-elected t p h = p .elected ∙ election-held (t .state) (t .priority) (t .holder) h
 
-holders-long : (t : Table) → Parts t → length (t .holder) ≡ regionRoom
-unfolding shaped
-holders-long t p = eqb-true _ _ (given _ (p .shape) .1 .1 .1 .1 .1 .0)
-
 -- a region that exists has an entry
 pub region-there : (t : Table) → Parts t → (a : ℕ) → a < t .regions → a < length (t .holder)
-region-there t p a l = omega (arith, holders-long t p, counts-fit _ _ _ (p .counts) .1)
+region-there t p a l = omega (arith, regions-long t (p .shape) .0, counts-fit _ _ _ (p .counts) .1)
 
 module _ (t : Table) (p : Parts t) (who : ℕ) (is : who ≡ t .elected) (one : who ≢ nobody) where
   -- while the elected task calls, every region is free or its own
@@ -93,27 +104,59 @@ module _ (t : Table) (p : Parts t) (who : ℕ) (is : who ≡ t .elected) (one : 
           let s : suc who ≡ held (t .holder) = omega arith in
           rw s (p .regions)
 
-  -- and after ENTER and EXIT
-  module _ (a : ℕ) (f : ℕ → ℕ) (l : a < t .regions)
-      (keep : (h : ℕ) → regionFits (t .regions) (suc who) a h ≡ true → regionFits (t .regions) (suc who) a (f h) ≡ true) where
-    same-length : length (altered a f (t .holder)) ≡ length (t .holder)
-    same-length = length-altered f a (t .holder)
+  -- what is said of a region that exists is right, and so it is after the caller's ENTER and EXIT
+  caller-region : (a : ℕ) → a < t .regions → RegionRight (t .regions) (suc who) a (regionOf t a)
+  unfolding regionsRight
+  caller-region a l =
+      let k : a < regionRoom = omega (arith, counts-fit _ _ _ (p .counts) .1) in
+      (below-at _ regionRoom a caller-fits k, entries-fit t p a k)
 
-    fit : regionsRight (t .regions) (suc who) (altered a f (t .holder)) ≡ true
-    fit =
-        altered-fits (t .regions) (suc who) (t .holder) a f (region-there t p a l) keep caller-fits
+  pub enter-right : (a : ℕ) → a < t .regions → entriesFull (t .entries) a ≡ false → RegionRight (t .regions) (suc who) a (entered who (regionOf t a))
+  enter-right a l room = enter-fits (t .regions) a who (regionOf t a) (caller-region a l) l (eqb-false _ _ room)
 
-    pub held-after : (held (altered a f (t .holder)) ≡ 0) ⊎ (held (altered a f (t .holder)) ≡ suc who)
-    held-after = held-one (t .regions) (suc who) (altered a f (t .holder)) (same-length ∙ holders-long t p) fit
+  pub exit-right : (a : ℕ) → a < t .regions → RegionRight (t .regions) (suc who) a (exited who (regionOf t a))
+  exit-right a l = exit-fits (t .regions) a who (regionOf t a) (caller-region a l)
 
-    pub keep-holders : Parts (settled (withHolders (altered a f (t .holder)) t))
-    unfolding shaped holderRight
-    keep-holders =
+  -- the table with a region that is right
+  module _ (a : ℕ) (r : Region) (l : a < t .regions) (right : RegionRight (t .regions) (suc who) a r) where
+    holders : List ℕ
+    holders = set (t .holder) a (r .holder)
+
+    long : length holders ≡ regionRoom
+    unfolding holders
+    long = length-set (t .holder) a (r .holder) ∙ regions-long t (p .shape) .0
+
+    fit : regionsRight (t .regions) (suc who) holders ≡ true
+    unfolding holders
+    fit = set-fits (t .regions) (suc who) (t .holder) a (r .holder) (region-there t p a l) (right .0) caller-fits
+
+    pub held-after : (held (set (t .holder) a (r .holder)) ≡ 0) ⊎ (held (set (t .holder) a (r .holder)) ≡ suc who)
+    unfolding holders
+    held-after = held-one (t .regions) (suc who) holders long fit
+
+    entries-after : entriesEverywhere (set (t .holder) a (r .holder)) (set (t .entries) a (r .entries)) ≡ true
+    unfolding entriesEverywhere
+    entries-after = below-all _ regionRoom (λ i k. go i k (eqb i a) refl)
+      where
+        go : (i : ℕ) → i < regionRoom → (b : Bool) → eqb i a ≡ b
+            → entriesFit (getD (set (t .holder) a (r .holder)) i 0) (getD (set (t .entries) a (r .entries)) i 0) ≡ true
+        go i k true e =
+            let same = eqb-true i a e in
+            let there : a < length (t .entries) = omega (arith, regions-long t (p .shape) .1) in
+            rw (same, getD-set-same (t .holder) a (r .holder) 0 (region-there t p a l), getD-set-same (t .entries) a (r .entries) 0 there) (right .1)
+        go i k false e =
+            let n : i ≢ a = eqb-false i a e in
+            rw (getD-set-other (t .holder) a i (r .holder) 0 n, getD-set-other (t .entries) a i (r .entries) 0 n) (entries-fit t p i k)
+
+    pub keep-region : Parts (settled (withRegion a r t))
+    unfolding shaped holderRight holders
+    keep-region =
         record {
-          shape = rw same-length (p .shape);
+          shape = rw (length-set (t .holder) a (r .holder), length-set (t .entries) a (r .entries)) (p .shape);
           counts = p .counts;
           tasks = p .tasks;
-          regions = own-fits (t .regions) (suc who) (altered a f (t .holder)) (same-length ∙ holders-long t p) fit;
+          regions = own-fits (t .regions) (suc who) holders long fit;
+          entries = entries-after;
           holder = ready held-after;
           queues = p .queues;
           criteria = p .criteria;

@@ -217,6 +217,7 @@ module _ (t : Table) (p : Parts t) (i : ℕ) (r : Task) (l : i < t .tasks) where
         counts = p .counts;
         tasks = tasks-kept f;
         regions = p .regions;
+        entries = p .entries;
         holder = holder-kept k;
         queues = p .queues;
         criteria = p .criteria;

@@ -3,29 +3,31 @@ use Prim.Native.Nat.{ℕ, suc, _-_, _<_}
 use mathlib.Core.Path.{_≡_, refl, sym, ap, _∙_}
 use mathlib.Core.Logic.{_≢_, _⊎_, inl, inr}
 use mathlib.Core.Bool.{Bool, true, false, true≢false, false≢true}
-use mathlib.Core.List.{[], _∷_}
+use mathlib.Core.List.{List, [], _∷_}
 use native.Mathlib.Omega.{arith}
 use lib.Dec.{eqb, ltb}
+use lib.ListN.{set}
+use lib.Seq.{getD-set-same}
 use borrow.Author.Tests.{eqb-true, eqb-false, ltb-true, ltb-false, leb-true, not-false}
 use Rattle.rules.specs.declared.Table.{Table}
 use Rattle.rules.specs.declared.Call.{Call}
 use Rattle.rules.specs.Numbers.{taskRoom, priorityEnd, nobody, outside, SIGNAL, EXIT, TICK}
-use Rattle.rules.specs.Words.{isZero, altered, byOperation}
+use Rattle.rules.specs.Words.{isZero, byOperation}
 use Rattle.rules.specs.Regions.{held, occupied, holderOf, entered, exited}
 use Rattle.rules.specs.Timers.{later}
 use Rattle.rules.specs.Election.{readyAt, priorityAt, bestReady}
+use Rattle.rules.specs.Tables.{regionOf}
 use Rattle.rules.specs.Refusals.{missing, refusal}
 use Rattle.rules.specs.Effects.{Effect, ticked, nothing, operations, effect}
 use Rattle.rules.specs.Step.{step}
 use Rattle.rules.proofs.Bools.{given}
-use Rattle.rules.proofs.Lists.{altered-here}
 use Rattle.rules.proofs.Regions.{held-free}
 use Rattle.rules.proofs.Election.{best-wins, best-nobody, election-held, election-free}
 use Rattle.rules.proofs.Validity.{Parts, parts-of, held-fits, row-right, row-zero, rowZero, counts-fit, elected-ready, elected-below}
 use Rattle.rules.proofs.Refusals.{Accepted, accepted-facts}
 use Rattle.rules.proofs.Effects.{each-effect, ringing-same}
 use Rattle.theorems.specs.Running.{Runs, RightOneRuns, OnlyHolder, FreedByExit, HolderStays}
-use Rattle.theorems.proofs.Regions.{holder-elected, enter-fits, exit-fits, region-there, held-after}
+use Rattle.theorems.proofs.Regions.{holder-elected, enter-right, exit-right, region-there, held-after}
 use Rattle.theorems.proofs.Rows.{below-room}
 use Rattle.theorems.proofs.Kept.{Caller, caller-of, numbered, there, valid-kept}
 
@@ -110,10 +112,9 @@ only-holder t c h z =
 
 module _ (t : Table) (p : Parts t) (c : Call) (h : occupied (t .holder) ≡ true) where
   -- after ENTER and EXIT a region that is occupied still is the caller's
-  own : (f : ℕ → ℕ) → Caller t (c .caller) → (held (altered (c .a) f (t .holder)) ≡ 0) ⊎ (held (altered (c .a) f (t .holder)) ≡ suc (c .caller))
-      → occupied (altered (c .a) f (t .holder)) ≡ true → holderOf (altered (c .a) f (t .holder)) ≡ t .elected
-  own f w (inl z) k = absurd (false≢true (rw z at k))
-  own f w (inr e) k = let m : suc (c .caller) - 1 ≡ c .caller = omega arith in rw (e, m) (w .is)
+  own : (hs : List ℕ) → Caller t (c .caller) → (held hs ≡ 0) ⊎ (held hs ≡ suc (c .caller)) → occupied hs ≡ true → holderOf hs ≡ t .elected
+  own hs w (inl z) k = absurd (false≢true (rw z at k))
+  own hs w (inr e) k = let m : suc (c .caller) - 1 ≡ c .caller = omega arith in rw (e, m) (w .is)
 
   abbrev Stays : ℕ → Effect → Type 0
   Stays n e = Accepted t (numbered n c) → occupied (e .table .holder) ≡ true → holderOf (e .table .holder) ≡ t .elected
@@ -126,14 +127,14 @@ module _ (t : Table) (p : Parts t) (c : Call) (h : occupied (t .holder) ≡ true
   enter-stays o =
       let w = caller-of t (c .caller) (o .barred) (o .not-elected) in
       let l = there (t .regions) (c .a) (o .nothing-missing) in
-      own (entered (c .caller)) w (held-after t p (c .caller) (w .is) (w .one) (c .a) (entered (c .caller)) l (λ v g. enter-fits (t .regions) (c .a) (c .caller) v l))
+      own _ w (held-after t p (c .caller) (w .is) (w .one) (c .a) (entered (c .caller) (regionOf t (c .a))) l (enter-right t p (c .caller) (w .is) (w .one) (c .a) l (o .may-enter)))
 
   exit-stays : Stays 7 (byOperation nothing 7 operations t c)
   unfolding missing
   exit-stays o =
       let w = caller-of t (c .caller) (o .barred) (o .not-elected) in
       let l = there (t .regions) (c .a) (o .nothing-missing) in
-      own (exited (c .caller)) w (held-after t p (c .caller) (w .is) (w .one) (c .a) (exited (c .caller)) l (exit-fits (t .regions) (c .a) (c .caller)))
+      own _ w (held-after t p (c .caller) (w .is) (w .one) (c .a) (exited (c .caller) (regionOf t (c .a))) l (exit-right t p (c .caller) (w .is) (w .one) (c .a) l))
 
   tick-stays : Stays 12 (byOperation nothing 12 operations t c)
   tick-stays o k = ap holderOf (ticked-holder t) ∙ sym (holder-elected t p h)
@@ -172,9 +173,9 @@ module _ (t : Table) (p : Parts t) (c : Call) (h : occupied (t .holder) ≡ true
   unfolding missing
   enter-occupies o k =
       let l = there (t .regions) (c .a) (o .nothing-missing) in
-      let hs = altered (c .a) (entered (c .caller)) (t .holder) in
+      let hs = set (t .holder) (c .a) (suc (c .caller)) in
       let none : held hs ≡ 0 = eqb-true _ 0 (not-false (isZero (held hs)) k) in
-      let some : suc (c .caller) ≡ 0 = sym (altered-here (entered (c .caller)) (c .a) 0 (t .holder) (region-there t p (c .a) l)) ∙ held-free hs none (c .a) in
+      let some : suc (c .caller) ≡ 0 = sym (getD-set-same (t .holder) (c .a) (suc (c .caller)) 0 (region-there t p (c .a) l)) ∙ held-free hs none (c .a) in
       absurd (omega arith)
 
   exit-ends : Ended 7 (byOperation nothing 7 operations t c)

@@ -10,7 +10,7 @@ use borrow.Author.Tests.{eq-eqb}
 use Rattle.rules.specs.declared.Timer.{Timer}
 use Rattle.rules.specs.declared.Table.{Table}
 use Rattle.rules.specs.declared.Call.{Call}
-use Rattle.rules.specs.Numbers.{outside, SEND, RETRIEVE, TICK}
+use Rattle.rules.specs.Numbers.{outside, ENTER, SEND, RETRIEVE, TICK}
 use Rattle.rules.specs.Words.{isZero, Reason, when, first}
 use Rattle.rules.specs.Tasks.{isStopped, signalled}
 use Rattle.rules.specs.Queues.{noneFits}
@@ -18,7 +18,7 @@ use Rattle.rules.specs.Timers.{later, isDue, rung}
 use Rattle.rules.specs.Tables.{taskOf, boundOf, queueOf, changed, withTimers, withElected, electionOf, settled}
 use Rattle.rules.specs.Validity.{valid}
 use Rattle.rules.specs.Answers.{done}
-use Rattle.rules.specs.Refusals.{missing, wrongState, leaves, reasons, refusal}
+use Rattle.rules.specs.Refusals.{missing, wrongState, leaves, entriesFull, reasons, refusal}
 use Rattle.rules.specs.Effects.{ringing, ticked, effect}
 use Rattle.rules.specs.Step.{step}
 use Rattle.rules.proofs.Validity.{parts-of}
@@ -44,6 +44,7 @@ joined tasks rest =
       list = tasks .list;
       operator = tasks .operator;
       holder = rest .holder;
+      entries = rest .entries;
       bound = rest .bound;
       length = rest .length;
       element = rest .element;
@@ -119,6 +120,7 @@ restReasons t c =
     ∷ when 14 (missing (t .tasks) (t .regions) (t .queues) c)
     ∷ when 17 (eqb (c .operation) SEND && leb (boundOf t (c .a)) (length (queueOf t (c .a))))
     ∷ when 18 (eqb (c .operation) RETRIEVE && noneFits (c .c) (queueOf t (c .a)))
+    ∷ when 22 (eqb (c .operation) ENTER && entriesFull (t .entries) (c .a))
     ∷ []
 
 unfoldable pub restRefusal : Table → Call → ℕ

@@ -29,7 +29,7 @@ use Rattle.theorems.proofs.Rows.{signalled-fits, below-room, keep-task,
 
 pub timers-long : (t : Table) → Parts t → length (t .timers) ≡ timerRoom
 unfolding shaped
-timers-long t p = eqb-true _ _ (given _ (p .shape) .1 .1 .1 .1 .1 .1 .1 .1 .1 .1 .0)
+timers-long t p = eqb-true _ _ (given _ (p .shape) .1 .1 .1 .1 .1 .1 .1 .1 .1 .1 .1 .0)
 
 pub timers-shaped : (t : Table) (ticks : ℕ) (timers : List Timer) → length timers ≡ length (t .timers) → shaped (withTimers ticks timers t) ≡ shaped t
 unfolding shaped
@@ -44,6 +44,7 @@ keep-timers t p ticks timers long right =
       counts = p .counts;
       tasks = p .tasks;
       regions = p .regions;
+      entries = p .entries;
       holder = p .holder;
       queues = p .queues;
       criteria = p .criteria;

@@ -60,6 +60,7 @@ withRows rows t =
       list = rows .list;
       operator = rows .operator;
       holder = t .holder;
+      entries = t .entries;
       bound = t .bound;
       length = t .length;
       element = t .element;

@@ -36,6 +36,7 @@ pub(crate) fn spoiled(mut t: Table, field: u32, entry: u32, n: u32) -> Table {
         12 => t.element[at] = n,
         13 => t.criterion[at] = byte,
         14 => t.ticks = n,
+        19 => t.entries[at % 16] = byte,
         _ => {
             let r = t.timers[at % 16];
             t.timers[at % 16] = spoiled_timer(r, field, n);

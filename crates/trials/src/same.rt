@@ -18,6 +18,7 @@ fn same_at(t: Table, u: Table, i: usize) -> bool {
         & (t.list[task] == u.list[task])
         & (t.operator[task] == u.operator[task])
         & (t.holder[region] == u.holder[region])
+        & (t.entries[region] == u.entries[region])
         & (t.bound[queue] == u.bound[queue])
         & (t.length[queue] == u.length[queue])
         & (t.element[place] == u.element[place])

@@ -80,6 +80,7 @@ pub(crate) fn zeros() -> Table {
         list: [0; 32],
         operator: [0; 32],
         holder: [0; 16],
+        entries: [0; 16],
         bound: [0; 8],
         length: [0; 8],
         element: [0; 512],

@@ -62,7 +62,7 @@ fn name_of(word: &[u8]) -> u32 {
     );
     let n = named(
         word,
-        b"tasks regions queues elected priority state arrived list operator holder bound length element criterion ticks flag owner event date ",
+        b"tasks regions queues elected priority state arrived list operator holder bound length element criterion ticks flag owner event date entries ",
         0,
         n,
     );

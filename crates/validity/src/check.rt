@@ -4,6 +4,7 @@ use queues::criteria_right;
 use queues::queues_right;
 use rules::Timer;
 use tasks::elected_by;
+use tasks::entries_right;
 use tasks::held_by;
 use tasks::holder_right;
 use tasks::regions_right;
@@ -26,6 +27,7 @@ pub fn valid_of<'a>(
     list: &'a [u16; 32],
     operator: &'a [u8; 32],
     holder: &'a [u8; 16],
+    entries: &'a [u8; 16],
     bound: &'a [u8; 8],
     lengths: &'a [u8; 8],
     element: &'a [u32; 512],
@@ -39,20 +41,24 @@ pub fn valid_of<'a>(
     requires { ⌜ length (now list) ≡ 32 ⌝ }
     requires { ⌜ length (now operator) ≡ 32 ⌝ }
     requires { ⌜ length (now holder) ≡ 16 ⌝ }
+    requires { ⌜ length (now entries) ≡ 16 ⌝ }
     requires { ⌜ length (now bound) ≡ 8 ⌝ }
     requires { ⌜ length (now lengths) ≡ 8 ⌝ }
     requires { ⌜ length (now element) ≡ 512 ⌝ }
     requires { ⌜ length (now criterion) ≡ 512 ⌝ }
-    ensures { λ r. ⌜ r ≡ valid (lent tasks regions queues elected (now (priority .entry)) (now (state .entry)) (now (arrived .entry)) (now (list .entry)) (now (operator .entry)) (now (holder .entry)) (now (bound .entry)) (now (lengths .entry)) (now (element .entry)) (now (criterion .entry)) ticks timers) ⌝ }
+    ensures { λ r. ⌜ r ≡ valid (lent tasks regions queues elected (now (priority .entry)) (now (state .entry)) (now (arrived .entry)) (now (list .entry)) (now (operator .entry)) (now (holder .entry)) (now (entries .entry)) (now (bound .entry)) (now (lengths .entry)) (now (element .entry)) (now (criterion .entry)) ticks timers) ⌝ }
 {
     let counts = counts_right(tasks, regions, queues);
     let columns = tasks_right(tasks, priority, state, arrived, list, operator);
     let v = held_by(holder);
     let held = regions_right(regions, v, holder);
+    let counted = entries_right(holder, entries);
     let ready = holder_right(tasks, state, v);
     let stores = queues_right(queues, bound, lengths, element, criterion);
     let criteria = criteria_right(criterion);
     let who = elected_by(v, state, priority);
     let clock = timers_right(tasks, ticks, timers, state);
-    counts & (columns & (held & (ready & (stores & (criteria & ((elected == who) & clock))))))
+    counts
+        & (columns
+            & (held & (counted & (ready & (stores & (criteria & ((elected == who) & clock)))))))
 }

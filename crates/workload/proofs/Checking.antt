@@ -14,7 +14,7 @@ use Rattle.workload.specs.Checks.{Checks, withOldest, standing, check, c
 -- what the types of its arrays say of a table
 abbrev pub Shaped : Table → Type 0
 Shaped t =
-    Lengths (t .priority) (t .state) (t .arrived) (t .list) (t .operator) (t .holder) (t .bound) (t .length) (t .element) (t .criterion)
+    Lengths (t .priority) (t .state) (t .arrived) (t .list) (t .operator) (t .holder) (t .entries) (t .bound) (t .length) (t .element) (t .criterion)
 
 pub shape-kept : (t : Table) (x : ℕ) → Shaped t → Shaped (withOldest x t)
 shape-kept t x s =
@@ -25,6 +25,7 @@ shape-kept t x s =
       list-long = s .list-long;
       operator-long = s .operator-long;
       holder-long = s .holder-long;
+      entries-long = s .entries-long;
       bound-long = s .bound-long;
       length-long = s .length-long;
       element-long = rw length-set (s .element-long);

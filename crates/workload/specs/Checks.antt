@@ -21,6 +21,7 @@ withOldest x t =
       list = t .list;
       operator = t .operator;
       holder = t .holder;
+      entries = t .entries;
       bound = t .bound;
       length = t .length;
       element = set (t .element) 0 x;

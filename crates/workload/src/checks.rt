@@ -27,6 +27,7 @@ fn checks_of(mut t: Table, mut x: u32, checks: u32) -> u32
             &t.list,
             &t.operator,
             &t.holder,
+            &t.entries,
             &t.bound,
             &t.length,
             &t.element,

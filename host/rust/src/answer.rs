@@ -30,6 +30,8 @@ pub enum Status {
     BadOperator,
     /// 20: a configuration out of range.
     BadConfiguration,
+    /// 22: ENTER of a region that has been entered 255 times and not left.
+    EnteredTooOften,
     /// Any other number. The library gives none; so reading an answer has no case in which to fail.
     Other(u8),
 }
@@ -50,6 +52,7 @@ impl Status {
             18 => Status::NoneFits,
             19 => Status::BadOperator,
             20 => Status::BadConfiguration,
+            22 => Status::EnteredTooOften,
             other => Status::Other(other),
         }
     }

@@ -35,12 +35,12 @@ pub enum Operation {
         /// Which events.
         list: EventList,
     },
-    /// The caller becomes a region's holder.
+    /// The caller becomes a region's holder, and the region counts one entry more.
     Enter {
         /// The region.
         region: Region,
     },
-    /// A region becomes free.
+    /// A region that the caller holds counts one entry less; it is free when none is left.
     Exit {
         /// The region.
         region: Region,

@@ -1,5 +1,5 @@
 //! Bytes of every kind through the functions that take any: each gets its answer, and what is refused is left as it was.
-use tankwesho::{raw, Block, Status, SIZE};
+use tankwesho::{raw, Block, Operation, Region, Status, Task, SIZE};
 
 /// Marsaglia's xorshift, 32 bits wide.
 struct Drawn(u32);
@@ -109,6 +109,25 @@ fn drawn_damage() {
     assert!(tables > 100 && damaged > 100, "{tables} and {damaged}: the draw is no longer a mix");
 }
 
+/// T-04: "A region counts its entries, 1 to 255"; "A free region has count 0". The counts stand at 244 to 259.
+#[test]
+fn damaged_counts() {
+    let (mut block, region) = (example(), Region::new(0).unwrap());
+    assert_eq!(block.call(Task::FIRST, Operation::Enter { region }).status, Status::Done);
+    let with_count = |place: usize, count| {
+        let mut bytes = *block.as_bytes();
+        bytes[place] = count;
+        Block::from_bytes(&bytes)
+    };
+    assert_eq!(with_count(244, 1), Ok(block.clone()));
+    assert_eq!(with_count(244, 0), Err(Status::NotATable));
+    for place in 245..260 {
+        assert_eq!(with_count(place, 1), Err(Status::NotATable));
+    }
+    let mut deepest = with_count(244, 255).unwrap();
+    assert_eq!(deepest.call(Task::FIRST, Operation::Enter { region }).status, Status::EnteredTooOften);
+}
+
 /// Bytes of which none is a table, and every operation and query number: all get 10.
 #[test]
 fn drawn_bytes() {
@@ -116,7 +135,7 @@ fn drawn_bytes() {
     for number in 0..=255 {
         let mut bytes = [0; SIZE];
         bytes.iter_mut().for_each(|byte| *byte = drawn.next() as u8);
-        bytes[2827] |= 1;
+        bytes[2843] |= 1;
         let before = bytes;
         assert_eq!(raw::call(&mut bytes, before[3], number, 0, 0, 0).status, Status::NotATable);
         assert_eq!(raw::query(&bytes, number, bytes[3], 0, 0).status, Status::NotATable);

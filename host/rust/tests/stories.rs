@@ -36,6 +36,33 @@ fn p2() {
     assert_eq!(block.call(task(0), Operation::Exit { region }), answer(Status::Done, Some(2)));
 }
 
+/// T-04: a routine 254 entries deep "calls a helper that enters and exits the same region", and goes on protected; the task started
+/// inside, more urgent, is elected at the last EXIT. "The 256th ENTER gets 22".
+#[test]
+fn entries() {
+    let (mut block, region) = (example(), Region::new(0).unwrap());
+    let (enter, exit) = (Operation::Enter { region }, Operation::Exit { region });
+    for _ in 0..254 {
+        assert_eq!(block.call(task(0), enter), answer(Status::Done, Some(0)));
+    }
+    let routine = block.clone();
+    assert_eq!(block.call(task(0), enter), answer(Status::Done, Some(0)));
+    let helper = block.clone();
+    assert_eq!(block.call(task(0), enter), answer(Status::EnteredTooOften, Some(0)));
+    assert_eq!(block, helper);
+    assert_eq!(block.call(task(0), exit), answer(Status::Done, Some(0)));
+    assert_eq!(block, routine);
+    assert_eq!(block.call(task(0), Operation::Start { task: task(2) }), answer(Status::Done, Some(0)));
+    for _ in 0..253 {
+        assert_eq!(block.call(task(0), exit), answer(Status::Done, Some(0)));
+    }
+    assert_eq!(block.call(task(0), Operation::End), answer(Status::InRegion, Some(0)));
+    assert_eq!(block.call(task(0), exit), answer(Status::Done, Some(2)));
+    let free = block.clone();
+    assert_eq!(block.call(task(2), exit), answer(Status::Done, Some(2)));
+    assert_eq!(block, free);
+}
+
 /// "WAIT list 3 all: status 1, elected 255. Outside SIGNAL 0 to task 0: still 255; SIGNAL 1: elected 0, events 3."
 #[test]
 fn p3() {

@@ -1,4 +1,4 @@
--- A refused call hands the table back. An accepted one is a change of one task and perhaps its timers, of one region's entry, of one
+-- A refused call hands the table back. An accepted one is a change of one task and perhaps its timers, of one region, of one
 -- queue's places, of one timer, or a tick; what the code builds in each case is the step, by the laws of proofs/Done.antt and Timed.antt.
 use borrow.Author.Needs.{needs}
 use native.Mathlib.Omega.{arith}
@@ -18,14 +18,17 @@ use Rattle.calls.proofs.Timed.{timer-done, tick-done}
 use Rattle.calls.proofs.call.Statement.{statement}
 use Rattle.calls.proofs.call.Tie as tie
 
-long : (c : tie.Start) → Lengths (c .args .t1 .priority) (c .args .t1 .state) (c .args .t1 .arrived) (c .args .t1 .list) (c .args .t1 .operator) (c .args .t1 .holder) (c .args .t1 .bound) (c .args .t1 .length) (c .args .t1 .element) (c .args .t1 .criterion)
+long : (c : tie.Start) → Lengths (c .args .t1 .priority) (c .args .t1 .state) (c .args .t1 .arrived) (c .args .t1 .list) (c .args .t1 .operator) (c .args .t1 .holder) (c .args .t1 .entries) (c .args .t1 .bound) (c .args .t1 .length) (c .args .t1 .element) (c .args .t1 .criterion)
 long c = search needs
 
+abbrev start : tie.Then1 → tie.Start
+start c = c .before .before .before .before .before .before .before .before .before .before .before .before .before .before .before .before
+
 abbrev table : tie.Then1 → Table
-table c = c .before .before .before .before .before .before .before .before .before .before .before .before .before .before .before .args .t1
+table c = start c .args .t1
 
 abbrev call : tie.Then1 → Call
-call c = c .before .before .before .before .before .before .before .before .before .before .before .before .before .before .before .args .k
+call c = start c .args .k
 
 -- nothing is refused from here on
 zero : (c : tie.Then1) → refusal (table c) (call c) ≡ 0
@@ -54,7 +57,7 @@ is-retrieve : (c : tie.Then1) → 8 ≤ call c .operation → call c .operation 
 is-retrieve c l h n = retrieve-is (call c) l h n
 
 refusal-of-requires : tie.Need-refusal-of-requires
-refusal-of-requires c κs = let l = long (c .before .before .before .before .before .before .before .before .before .before .before .before) in omega arith
+refusal-of-requires c κs = let l = long (c .before .before .before .before .before .before .before .before .before .before .before .before .before) in omega arith
 
 reported-by-requires : tie.Need-reported-by-requires
 reported-by-requires c κs = search needs
@@ -65,14 +68,14 @@ target-of-requires c κs = search needs
 cast-i : tie.Need-cast-i
 cast-i c = search needs
 
-element-copy-out-t56 : tie.Need-element-copy-out-t56
-element-copy-out-t56 c = omega (arith, c .target-of .ensures, task-there (c .before .before) (c .before .if2 .taken))
-
-mul-t57 : tie.Need-mul-t57
-mul-t57 c = search needs
-
 element-copy-out-t60 : tie.Need-element-copy-out-t60
-element-copy-out-t60 c = omega (arith, c .before .target-of .ensures, task-there (c .before .before .before) (c .before .before .if2 .taken))
+element-copy-out-t60 c = omega (arith, c .target-of .ensures, task-there (c .before .before) (c .before .if2 .taken))
+
+mul-t61 : tie.Need-mul-t61
+mul-t61 c = search needs
+
+element-copy-out-t64 : tie.Need-element-copy-out-t64
+element-copy-out-t64 c = omega (arith, c .before .target-of .ensures, task-there (c .before .before .before) (c .before .before .if2 .taken))
 
 mul-met-by : tie.Need-mul-met-by
 mul-met-by c = search needs
@@ -117,10 +120,10 @@ element-write-t-4 : tie.Need-element-write-t-4
 element-write-t-4 c = omega (arith, c .before .before .before .before .before .before .before .before .before .target-of .ensures, task-there (c .before .before .before .before .before .before .before .before .before .before .before) (c .before .before .before .before .before .before .before .before .before .before .if2 .taken))
 
 held-by-requires : tie.Need-held-by-requires
-held-by-requires c κs = long (c .before .before .before .before .before .before .before .before .before .before .before .before .before .before .before .before .before .before .before .before .before .before .before .before .before .before .before .before .before .before .before) .holder-long
+held-by-requires c κs = long (start (c .before .before .before .before .before .before .before .before .before .before .before .before .before .before .before .before)) .holder-long
 
 elected-by-requires : tie.Need-elected-by-requires
-elected-by-requires c κs = (rw length-set (long (c .before .before .before .before .before .before .before .before .before .before .before .before .before .before .before .before .before .before .before .before .before .before .before .before .before .before .before .before .before .before .before .before .before .before .before) .state-long), long (c .before .before .before .before .before .before .before .before .before .before .before .before .before .before .before .before .before .before .before .before .before .before .before .before .before .before .before .before .before .before .before .before .before .before .before) .priority-long)
+elected-by-requires c κs = (rw length-set (long (start (c .before .before .before .before .before .before .before .before .before .before .before .before .before .before .before .before .before .before .before .before)) .state-long), long (start (c .before .before .before .before .before .before .before .before .before .before .before .before .before .before .before .before .before .before .before .before)) .priority-long)
 
 cast-disarmed-all : tie.Need-cast-disarmed-all
 cast-disarmed-all c = omega (arith, c .before .before .before .before .before .before .before .before .before .before .before .before .before .before .before .before .before .before .before .before .target-of .ensures, task-there (c .before .before .before .before .before .before .before .before .before .before .before .before .before .before .before .before .before .before .before .before .before .before) (c .before .before .before .before .before .before .before .before .before .before .before .before .before .before .before .before .before .before .before .before .before .if2 .taken))
@@ -134,20 +137,26 @@ cast-at c = search needs
 add-mine : tie.Need-add-mine
 add-mine c = let l = caller-small (c .before .before .before .before) (c .before .before .before .if2 .left) (c .before .if5 .taken) in omega arith
 
-element-copy-out-holder-after : tie.Need-element-copy-out-holder-after
-element-copy-out-holder-after c = region-small (c .before .before .before .before) (c .before .before .before .if2 .left) (c .before .if5 .taken)
+element-copy-out-holder : tie.Need-element-copy-out-holder
+element-copy-out-holder c = region-small (c .before .before .before .before) (c .before .before .before .if2 .left) (c .before .if5 .taken)
 
-holder-after-requires : tie.Need-holder-after-requires
-holder-after-requires c κs = search needs
+element-copy-out-entries : tie.Need-element-copy-out-entries
+element-copy-out-entries c = region-small (c .before .before .before .before .before) (c .before .before .before .before .if2 .left) (c .before .before .if5 .taken)
+
+region-after-requires : tie.Need-region-after-requires
+region-after-requires c κs = search needs
 
 element-write-t-5 : tie.Need-element-write-t-5
-element-write-t-5 c = region-small (c .before .before .before .before .before .before) (c .before .before .before .before .before .if2 .left) (c .before .before .before .if5 .taken)
+element-write-t-5 c = region-small (c .before .before .before .before .before .before .before) (c .before .before .before .before .before .before .if2 .left) (c .before .before .before .before .if5 .taken)
+
+element-write-t-6 : tie.Need-element-write-t-6
+element-write-t-6 c = region-small (c .before .before .before .before .before .before .before) (c .before .before .before .before .before .before .if2 .left) (c .before .before .before .before .if5 .taken)
 
 held-by-requires-2 : tie.Need-held-by-requires-2
-held-by-requires-2 c κs = rw length-set (long (c .before .before .before .before .before .before .before .before .before .before .before .before .before .before .before .before .before .before .before .before .before .before .before) .holder-long)
+held-by-requires-2 c κs = rw length-set (long (start (c .before .before .before .before .before .before .before .before .before)) .holder-long)
 
 elected-by-requires-2 : tie.Need-elected-by-requires-2
-elected-by-requires-2 c κs = (long (c .before .before .before .before .before .before .before .before .before .before .before .before .before .before .before .before .before .before .before .before .before .before .before .before .before .before .before) .state-long, long (c .before .before .before .before .before .before .before .before .before .before .before .before .before .before .before .before .before .before .before .before .before .before .before .before .before .before .before) .priority-long)
+elected-by-requires-2 c κs = (long (start (c .before .before .before .before .before .before .before .before .before .before .before .before .before)) .state-long, long (start (c .before .before .before .before .before .before .before .before .before .before .before .before .before)) .priority-long)
 
 element-copy-out-n : tie.Need-element-copy-out-n
 element-copy-out-n c = queue-there (c .before .before .before .before) (c .before .if5 .left) (c .if6 .taken) .queue-small
@@ -164,23 +173,23 @@ add-end c = let f = queue-there (c .before .before .before .before .before) (c .
 mul-t-3 : tie.Need-mul-t-3
 mul-t-3 c = let f = queue-there (c .before .before .before .before .before .before) (c .before .before .before .if5 .left) (c .before .before .if6 .taken) in omega arith
 
-element-write-t-6 : tie.Need-element-write-t-6
-element-write-t-6 c = let f = queue-there (c .before .before .before .before .before .before) (c .before .before .before .if5 .left) (c .before .before .if6 .taken) in omega (arith, free _ _ (zero (c .before .before .before .before .before .before)) (c .if7 .taken))
+element-write-t-7 : tie.Need-element-write-t-7
+element-write-t-7 c = let f = queue-there (c .before .before .before .before .before .before) (c .before .before .before .if5 .left) (c .before .before .if6 .taken) in omega (arith, free _ _ (zero (c .before .before .before .before .before .before)) (c .if7 .taken))
 
 cast-t : tie.Need-cast-t
 cast-t c = search needs
 
-element-write-t-7 : tie.Need-element-write-t-7
-element-write-t-7 c = let f = queue-there (c .before .before .before .before .before .before .before) (c .before .before .before .before .if5 .left) (c .before .before .before .if6 .taken) in omega (arith, free _ _ (zero (c .before .before .before .before .before .before .before)) (c .before .if7 .taken))
+element-write-t-8 : tie.Need-element-write-t-8
+element-write-t-8 c = let f = queue-there (c .before .before .before .before .before .before .before) (c .before .before .before .before .if5 .left) (c .before .before .before .if6 .taken) in omega (arith, free _ _ (zero (c .before .before .before .before .before .before .before)) (c .before .if7 .taken))
 
 add-t : tie.Need-add-t
 add-t c = let f = queue-there (c .before .before .before .before .before .before .before) (c .before .before .before .before .if5 .left) (c .before .before .before .if6 .taken) in omega arith
 
-element-write-t-8 : tie.Need-element-write-t-8
-element-write-t-8 c = queue-there (c .before .before .before .before .before .before .before) (c .before .before .before .before .if5 .left) (c .before .before .before .if6 .taken) .queue-small
+element-write-t-9 : tie.Need-element-write-t-9
+element-write-t-9 c = queue-there (c .before .before .before .before .before .before .before) (c .before .before .before .before .if5 .left) (c .before .before .before .if6 .taken) .queue-small
 
 place-of-requires : tie.Need-place-of-requires
-place-of-requires c κs = long (c .before .before .before .before .before .before .before .before .before .before .before .before .before .before .before .before .before .before .before .before .before .before .before) .criterion-long
+place-of-requires c κs = long (start (c .before .before .before .before .before .before .before .before)) .criterion-long
 
 mul-value : tie.Need-mul-value
 mul-value c = let f = queue-there (c .before .before .before .before .before .before .before .before .before) (c .before .before .before .before .before .before .if5 .left) (c .before .before .before .before .before .if6 .taken) in omega (arith, found _ _ (zero (c .before .before .before .before .before .before .before .before .before)) (is-retrieve (c .before .before .before .before .before .before .before .before .before) (c .before .before .before .before .before .before .if5 .left) (c .before .before .before .before .before .if6 .taken) (c .before .before .before .if7 .left)) _ (c .place-of .ensures))
@@ -192,16 +201,16 @@ element-copy-out-key : tie.Need-element-copy-out-key
 element-copy-out-key c = let f = queue-there (c .before .before .before .before .before .before .before .before .before .before) (c .before .before .before .before .before .before .before .if5 .left) (c .before .before .before .before .before .before .if6 .taken) in omega (arith, found _ _ (zero (c .before .before .before .before .before .before .before .before .before .before)) (is-retrieve (c .before .before .before .before .before .before .before .before .before .before) (c .before .before .before .before .before .before .before .if5 .left) (c .before .before .before .before .before .before .if6 .taken) (c .before .before .before .before .if7 .left)) _ (c .before .place-of .ensures))
 
 close-elements-requires : tie.Need-close-elements-requires
-close-elements-requires c κs = long (c .before .before .before .before .before .before .before .before .before .before .before .before .before .before .before .before .before .before .before .before .before .before .before .before .before .before .before) .element-long
+close-elements-requires c κs = long (start (c .before .before .before .before .before .before .before .before .before .before .before .before)) .element-long
 
 close-criteria-requires : tie.Need-close-criteria-requires
-close-criteria-requires c κs = long (c .before .before .before .before .before .before .before .before .before .before .before .before .before .before .before .before .before .before .before .before .before .before .before .before .before .before .before .before .before) .criterion-long
+close-criteria-requires c κs = long (start (c .before .before .before .before .before .before .before .before .before .before .before .before .before .before)) .criterion-long
 
 sub-t : tie.Need-sub-t
 sub-t c = retrieve-some _ _ (zero (c .before .before .before .before .before .before .before .before .before .before .before .before .before .before .before)) (is-retrieve (c .before .before .before .before .before .before .before .before .before .before .before .before .before .before .before) (c .before .before .before .before .before .before .before .before .before .before .before .before .if5 .left) (c .before .before .before .before .before .before .before .before .before .before .before .if6 .taken) (c .before .before .before .before .before .before .before .before .before .if7 .left))
 
-element-write-t-9 : tie.Need-element-write-t-9
-element-write-t-9 c = queue-there (c .before .before .before .before .before .before .before .before .before .before .before .before .before .before .before) (c .before .before .before .before .before .before .before .before .before .before .before .before .if5 .left) (c .before .before .before .before .before .before .before .before .before .before .before .if6 .taken) .queue-small
+element-write-t-10 : tie.Need-element-write-t-10
+element-write-t-10 c = queue-there (c .before .before .before .before .before .before .before .before .before .before .before .before .before .before .before) (c .before .before .before .before .before .before .before .before .before .before .before .before .if5 .left) (c .before .before .before .before .before .before .before .before .before .before .before .if6 .taken) .queue-small
 
 mul-timer-after : tie.Need-mul-timer-after
 mul-timer-after c = let f = timer-there (table (c .before .before .before .before .before)) (call (c .before .before .before .before .before)) (facts (c .before .before .before .before .before)) (c .before .if6 .left) (c .if8 .taken) in omega arith
@@ -212,8 +221,8 @@ element-copy-out-timer-after c = let f = timer-there (table (c .before .before .
 timer-after-requires : tie.Need-timer-after-requires
 timer-after-requires c κs = search needs
 
-mul-t133 : tie.Need-mul-t133
-mul-t133 c = let f = timer-there (table (c .before .before .before .before .before .before .before)) (call (c .before .before .before .before .before .before .before)) (facts (c .before .before .before .before .before .before .before)) (c .before .before .before .if6 .left) (c .before .before .if8 .taken) in omega arith
+mul-t141 : tie.Need-mul-t141
+mul-t141 c = let f = timer-there (table (c .before .before .before .before .before .before .before)) (call (c .before .before .before .before .before .before .before)) (facts (c .before .before .before .before .before .before .before)) (c .before .before .before .if6 .left) (c .before .before .if8 .taken) in omega arith
 
 element-set-from-t : tie.Need-element-set-from-t
 element-set-from-t c = let f = timer-there (table (c .before .before .before .before .before .before .before)) (call (c .before .before .before .before .before .before .before)) (facts (c .before .before .before .before .before .before .before)) (c .before .before .before .if6 .left) (c .before .before .if8 .taken) in omega arith
@@ -228,10 +237,10 @@ rung-all-requires : tie.Need-rung-all-requires
 rung-all-requires c κs = search needs
 
 held-by-requires-3 : tie.Need-held-by-requires-3
-held-by-requires-3 c κs = long (c .before .before .before .before .before .before .before .before .before .before .before .before .before .before .before .before .before .before .before .before .before .before .before .before .before .before .before .before .before .before .before .before .before) .holder-long
+held-by-requires-3 c κs = long (start (c .before .before .before .before .before .before .before .before .before .before .before .before .before .before .before .before .before .before)) .holder-long
 
 elected-by-requires-3 : tie.Need-elected-by-requires-3
-elected-by-requires-3 c κs = (search needs, long (c .before .before .before .before .before .before .before .before .before .before .before .before .before .before .before .before .before .before .before .before .before .before .before .before .before .before .before .before .before .before .before .before .before .before .before .before .before) .priority-long)
+elected-by-requires-3 c κs = (search needs, long (start (c .before .before .before .before .before .before .before .before .before .before .before .before .before .before .before .before .before .before .before .before .before .before)) .priority-long)
 
 returns : tie.Need-returns
 returns c = stop-done _ _ (zero (c .before .before .before .before .before .before .before .before .before .before .before .before .before .before .before .before .before .before .before .before .before .before .before)) (c .before .before .before .before .before .before .before .before .before .before .before .before .before .before .before .before .before .before .before .before .before .before .if2 .taken) _ (c .before .before .before .before .before .before .before .before .before .before .before .before .before .before .before .before .before .before .before .before .before .target-of .ensures) _ _ _ _ _ (c .before .before .before .before .before .before .before .before .before .before .before .before .before .task-after .ensures) (c .before .before .before .before .before .before .before .before .before .before .before .before .before .before .met-by .ensures) (c .before .before .before .before .before .before .held-by .ensures) (c .before .before .elected-by .ensures) (c .before .before .before .before .before .before .before .before .before .before .before .before .pick .ensures) (c .before .if4 .taken) _ (c .disarmed-all .ensures)
@@ -243,7 +252,7 @@ returns-3 : tie.Need-returns-3
 returns-3 c = task-kept _ _ (zero (c .before .before .before .before .before .before .before .before .before .before .before .before .before .before)) (c .before .before .before .before .before .before .before .before .before .before .before .before .before .if2 .taken) _ (c .before .before .before .before .before .before .before .before .before .before .before .before .target-of .ensures) _ _ _ _ (c .before .before .before .before .task-after .ensures) (c .before .before .before .before .before .met-by .ensures) (c .if3 .left) (own (c .before .before .before .before .before .before .before .before .before .before .before .before .before .before)) (c .before .before .before .pick .ensures)
 
 returns-4 : tie.Need-returns-4
-returns-4 c = region-done _ _ (zero (c .before .before .before .before .before .before .before .before .before .before .before .before .before)) (c .before .before .before .before .before .before .before .before .before .before .before .before .if2 .left) (c .before .before .before .before .before .before .before .before .before .before .if5 .taken) _ _ _ _ (c .before .before .before .before .before .before .before .holder-after .ensures) (c .before .before .before .before .held-by2 .ensures) (c .elected-by2 .ensures) (c .before .before .before .before .before .before .before .before .before .before .before .before .before .if1 .taken)
+returns-4 c = region-done _ _ (zero (c .before .before .before .before .before .before .before .before .before .before .before .before .before .before)) (c .before .before .before .before .before .before .before .before .before .before .before .before .before .if2 .left) (c .before .before .before .before .before .before .before .before .before .before .before .if5 .taken) _ _ _ _ (c .before .before .before .before .before .before .before .region-after .ensures) (c .before .before .before .before .held-by2 .ensures) (c .elected-by2 .ensures) (c .before .before .before .before .before .before .before .before .before .before .before .before .before .before .if1 .taken)
 
 returns-5 : tie.Need-returns-5
 returns-5 c = send-done _ _ (zero (c .before .before .before .before .before .before .before)) (c .before .if7 .taken) _ _ (c .before .before .before .before .before .before .before .if1 .taken) (own (c .before .before .before .before .before .before .before))
@@ -268,9 +277,9 @@ call-spec =
     reported-by-requires
     target-of-requires
     cast-i
-    element-copy-out-t56
-    mul-t57
     element-copy-out-t60
+    mul-t61
+    element-copy-out-t64
     mul-met-by
     element-copy-out-met-by
     element-copy-out-met-by-2
@@ -291,9 +300,11 @@ call-spec =
     disarmed-all-requires
     cast-at
     add-mine
-    element-copy-out-holder-after
-    holder-after-requires
+    element-copy-out-holder
+    element-copy-out-entries
+    region-after-requires
     element-write-t-5
+    element-write-t-6
     held-by-requires-2
     elected-by-requires-2
     element-copy-out-n
@@ -301,11 +312,11 @@ call-spec =
     cast-end
     add-end
     mul-t-3
-    element-write-t-6
-    cast-t
     element-write-t-7
-    add-t
+    cast-t
     element-write-t-8
+    add-t
+    element-write-t-9
     place-of-requires
     mul-value
     element-copy-out-value
@@ -313,11 +324,11 @@ call-spec =
     close-elements-requires
     close-criteria-requires
     sub-t
-    element-write-t-9
+    element-write-t-10
     mul-timer-after
     element-copy-out-timer-after
     timer-after-requires
-    mul-t133
+    mul-t141
     element-set-from-t
     later-by-requires
     rung-rows-requires

@@ -15,14 +15,17 @@ put-bytes-requires-2 c κs = search needs
 put-bytes-requires-3 : tie.Need-put-bytes-requires-3
 put-bytes-requires-3 c κs = search needs
 
-put-words-requires : tie.Need-put-words-requires
-put-words-requires c κs = search needs
-
 put-bytes-requires-4 : tie.Need-put-bytes-requires-4
 put-bytes-requires-4 c κs = search needs
 
+put-words-requires : tie.Need-put-words-requires
+put-words-requires c κs = search needs
+
+put-bytes-requires-5 : tie.Need-put-bytes-requires-5
+put-bytes-requires-5 c κs = search needs
+
 returns : tie.Need-returns
-returns c = rw (c .before .before .put-bytes4 .ensures, c .before .before .before .before .before .before .put-words .ensures, c .before .before .before .before .before .before .before .before .before .before .put-bytes3 .ensures, c .before .before .before .before .before .before .before .before .before .before .before .before .before .before .put-bytes2 .ensures, c .before .before .before .before .before .before .before .before .before .before .before .before .before .before .before .before .before .before .put-bytes .ensures)
+returns c = rw (c .before .before .put-bytes5 .ensures, c .before .before .before .before .before .before .put-words .ensures, c .before .before .before .before .before .before .before .before .before .before .put-bytes4 .ensures, c .before .before .before .before .before .before .before .before .before .before .before .before .before .before .put-bytes3 .ensures, c .before .before .before .before .before .before .before .before .before .before .before .before .before .before .before .before .before .before .put-bytes2 .ensures, c .before .before .before .before .before .before .before .before .before .before .before .before .before .before .before .before .before .before .before .before .before .before .put-bytes .ensures)
 
 same-length : tie.Need-same-length
 same-length c = ap length (returns c) ∙ simp put-length
@@ -34,7 +37,8 @@ put-queues-spec =
     put-bytes-requires
     put-bytes-requires-2
     put-bytes-requires-3
-    put-words-requires
     put-bytes-requires-4
+    put-words-requires
+    put-bytes-requires-5
     same-length
     returns)

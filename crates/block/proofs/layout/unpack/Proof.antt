@@ -59,17 +59,23 @@ slice-aggregate-take-bytes-6 c = search needs
 take-bytes-requires-6 : tie.Need-take-bytes-requires-6
 take-bytes-requires-6 c κs = search needs
 
+slice-aggregate-take-bytes-7 : tie.Need-slice-aggregate-take-bytes-7
+slice-aggregate-take-bytes-7 c = search needs
+
+take-bytes-requires-7 : tie.Need-take-bytes-requires-7
+take-bytes-requires-7 c κs = search needs
+
 slice-aggregate-take-words : tie.Need-slice-aggregate-take-words
 slice-aggregate-take-words c = search needs
 
 take-words-requires : tie.Need-take-words-requires
 take-words-requires c κs = search needs
 
-slice-aggregate-take-bytes-7 : tie.Need-slice-aggregate-take-bytes-7
-slice-aggregate-take-bytes-7 c = search needs
+slice-aggregate-take-bytes-8 : tie.Need-slice-aggregate-take-bytes-8
+slice-aggregate-take-bytes-8 c = search needs
 
-take-bytes-requires-7 : tie.Need-take-bytes-requires-7
-take-bytes-requires-7 c κs = search needs
+take-bytes-requires-8 : tie.Need-take-bytes-requires-8
+take-bytes-requires-8 c κs = search needs
 
 slice-aggregate-take-words-2 : tie.Need-slice-aggregate-take-words-2
 slice-aggregate-take-words-2 c = search needs
@@ -80,23 +86,23 @@ take-words-requires-2 c κs = search needs
 timers-at-requires : tie.Need-timers-at-requires
 timers-at-requires c κs = search needs
 
-shared-slice-read-t40 : tie.Need-shared-slice-read-t40
-shared-slice-read-t40 c = omega (arith, cut-long (c .before .before .before .before .before .before .before .before .before .before .before .before .before .before .before .before .before .before .before .before .before .before .before .before .before .before .before .before .before .before .before .before .before .before .before .before .before .args .block .now) (c .before .before .before .before .before .before .before .before .before .before .before .before .before .before .before .before .before .before .before .before .before .before .before .before .before .before .before .before .before .before .before .before .before .before .before .before .before .pre))
+shared-slice-read-tasks : tie.Need-shared-slice-read-tasks
+shared-slice-read-tasks c = omega (arith, cut-long (c .before .before .before .before .before .before .before .before .before .before .before .before .before .before .before .before .before .before .before .before .before .before .before .before .before .before .before .before .before .before .before .before .before .before .before .before .before .before .before .before .args .block .now) (c .before .before .before .before .before .before .before .before .before .before .before .before .before .before .before .before .before .before .before .before .before .before .before .before .before .before .before .before .before .before .before .before .before .before .before .before .before .before .before .before .pre))
 
-shared-slice-read-t42 : tie.Need-shared-slice-read-t42
-shared-slice-read-t42 c = omega (arith, cut-long (c .before .before .before .before .before .before .before .before .before .before .before .before .before .before .before .before .before .before .before .before .before .before .before .before .before .before .before .before .before .before .before .before .before .before .before .before .before .before .args .block .now) (c .before .before .before .before .before .before .before .before .before .before .before .before .before .before .before .before .before .before .before .before .before .before .before .before .before .before .before .before .before .before .before .before .before .before .before .before .before .before .pre))
+shared-slice-read-regions : tie.Need-shared-slice-read-regions
+shared-slice-read-regions c = omega (arith, cut-long (c .before .before .before .before .before .before .before .before .before .before .before .before .before .before .before .before .before .before .before .before .before .before .before .before .before .before .before .before .before .before .before .before .before .before .before .before .before .before .before .before .before .args .block .now) (c .before .before .before .before .before .before .before .before .before .before .before .before .before .before .before .before .before .before .before .before .before .before .before .before .before .before .before .before .before .before .before .before .before .before .before .before .before .before .before .before .before .pre))
 
-shared-slice-read-t44 : tie.Need-shared-slice-read-t44
-shared-slice-read-t44 c = omega (arith, cut-long (c .before .before .before .before .before .before .before .before .before .before .before .before .before .before .before .before .before .before .before .before .before .before .before .before .before .before .before .before .before .before .before .before .before .before .before .before .before .before .before .args .block .now) (c .before .before .before .before .before .before .before .before .before .before .before .before .before .before .before .before .before .before .before .before .before .before .before .before .before .before .before .before .before .before .before .before .before .before .before .before .before .before .before .pre))
+shared-slice-read-queues : tie.Need-shared-slice-read-queues
+shared-slice-read-queues c = omega (arith, cut-long (c .before .before .before .before .before .before .before .before .before .before .before .before .before .before .before .before .before .before .before .before .before .before .before .before .before .before .before .before .before .before .before .before .before .before .before .before .before .before .before .before .before .before .args .block .now) (c .before .before .before .before .before .before .before .before .before .before .before .before .before .before .before .before .before .before .before .before .before .before .before .before .before .before .before .before .before .before .before .before .before .before .before .before .before .before .before .before .before .before .pre))
 
-shared-slice-read-t46 : tie.Need-shared-slice-read-t46
-shared-slice-read-t46 c = omega (arith, cut-long (c .before .before .before .before .before .before .before .before .before .before .before .before .before .before .before .before .before .before .before .before .before .before .before .before .before .before .before .before .before .before .before .before .before .before .before .before .before .before .before .before .args .block .now) (c .before .before .before .before .before .before .before .before .before .before .before .before .before .before .before .before .before .before .before .before .before .before .before .before .before .before .before .before .before .before .before .before .before .before .before .before .before .before .before .before .pre))
+shared-slice-read-elected : tie.Need-shared-slice-read-elected
+shared-slice-read-elected c = omega (arith, cut-long (c .before .before .before .before .before .before .before .before .before .before .before .before .before .before .before .before .before .before .before .before .before .before .before .before .before .before .before .before .before .before .before .before .before .before .before .before .before .before .before .before .before .before .before .args .block .now) (c .before .before .before .before .before .before .before .before .before .before .before .before .before .before .before .before .before .before .before .before .before .before .before .before .before .before .before .before .before .before .before .before .before .before .before .before .before .before .before .before .before .before .before .pre))
 
-array-read-t59 : tie.Need-array-read-t59
-array-read-t59 c = search needs
+array-read-counter : tie.Need-array-read-counter
+array-read-counter c = search needs
 
 returns : tie.Need-returns
-returns c = unpacked-is (take blockSize (c .before .before .before .before .before .before .before .before .before .before .before .before .before .before .before .before .before .before .before .before .before .before .before .before .before .before .before .before .before .before .before .before .before .before .before .before .before .before .before .before .args .block .now)) (cut-long (c .before .before .before .before .before .before .before .before .before .before .before .before .before .before .before .before .before .before .before .before .before .before .before .before .before .before .before .before .before .before .before .before .before .before .before .before .before .before .before .before .args .block .now) (c .before .before .before .before .before .before .before .before .before .before .before .before .before .before .before .before .before .before .before .before .before .before .before .before .before .before .before .before .before .before .before .before .before .before .before .before .before .before .before .before .pre)) _ _ _ _ _ _ _ _ _ _ _ _ (c .before .before .before .before .before .before .before .before .before .before .before .before .before .before .before .before .before .before .before .before .before .before .before .before .before .before .before .before .before .before .before .before .before .before .before .before .take-bytes .ensures) (c .before .before .before .before .before .before .before .before .before .before .before .before .before .before .before .before .before .before .before .before .before .before .before .before .before .before .before .before .before .before .before .before .before .take-bytes2 .ensures) (c .before .before .before .before .before .before .before .before .before .before .before .before .before .before .before .before .before .before .before .before .before .before .before .before .before .before .before .before .before .before .take-halves .ensures) (c .before .before .before .before .before .before .before .before .before .before .before .before .before .before .before .before .before .before .before .before .before .before .before .before .before .before .before .take-halves2 .ensures) (c .before .before .before .before .before .before .before .before .before .before .before .before .before .before .before .before .before .before .before .before .before .before .before .before .take-bytes3 .ensures) (c .before .before .before .before .before .before .before .before .before .before .before .before .before .before .before .before .before .before .before .before .before .take-bytes4 .ensures) (c .before .before .before .before .before .before .before .before .before .before .before .before .before .before .before .before .before .before .take-bytes5 .ensures) (c .before .before .before .before .before .before .before .before .before .before .before .before .before .before .before .take-bytes6 .ensures) (c .before .before .before .before .before .before .before .before .before .before .before .before .take-words .ensures) (c .before .before .before .before .before .before .before .before .before .take-bytes7 .ensures) (c .before .before .before .before .before .before .take-words2 .ensures) (c .before .before .before .before .timers-at .ensures) ∙ ap unpacked (cut-same (c .before .before .before .before .before .before .before .before .before .before .before .before .before .before .before .before .before .before .before .before .before .before .before .before .before .before .before .before .before .before .before .before .before .before .before .before .before .before .before .before .args .block .now) (c .before .before .before .before .before .before .before .before .before .before .before .before .before .before .before .before .before .before .before .before .before .before .before .before .before .before .before .before .before .before .before .before .before .before .before .before .before .before .before .before .pre))
+returns c = unpacked-is (take blockSize (c .before .before .before .before .before .before .before .before .before .before .before .before .before .before .before .before .before .before .before .before .before .before .before .before .before .before .before .before .before .before .before .before .before .before .before .before .before .before .before .before .before .before .before .args .block .now)) (cut-long (c .before .before .before .before .before .before .before .before .before .before .before .before .before .before .before .before .before .before .before .before .before .before .before .before .before .before .before .before .before .before .before .before .before .before .before .before .before .before .before .before .before .before .before .args .block .now) (c .before .before .before .before .before .before .before .before .before .before .before .before .before .before .before .before .before .before .before .before .before .before .before .before .before .before .before .before .before .before .before .before .before .before .before .before .before .before .before .before .before .before .before .pre)) _ _ _ _ _ _ _ _ _ _ _ _ _ (c .before .before .before .before .before .before .before .before .before .before .before .before .before .before .before .before .before .before .before .before .before .before .before .before .before .before .before .before .before .before .before .before .before .before .before .before .before .before .before .take-bytes .ensures) (c .before .before .before .before .before .before .before .before .before .before .before .before .before .before .before .before .before .before .before .before .before .before .before .before .before .before .before .before .before .before .before .before .before .before .before .before .take-bytes2 .ensures) (c .before .before .before .before .before .before .before .before .before .before .before .before .before .before .before .before .before .before .before .before .before .before .before .before .before .before .before .before .before .before .before .before .before .take-halves .ensures) (c .before .before .before .before .before .before .before .before .before .before .before .before .before .before .before .before .before .before .before .before .before .before .before .before .before .before .before .before .before .before .take-halves2 .ensures) (c .before .before .before .before .before .before .before .before .before .before .before .before .before .before .before .before .before .before .before .before .before .before .before .before .before .before .before .take-bytes3 .ensures) (c .before .before .before .before .before .before .before .before .before .before .before .before .before .before .before .before .before .before .before .before .before .before .before .before .take-bytes4 .ensures) (c .before .before .before .before .before .before .before .before .before .before .before .before .before .before .before .before .before .before .before .before .before .take-bytes5 .ensures) (c .before .before .before .before .before .before .before .before .before .before .before .before .before .before .before .before .before .before .take-bytes6 .ensures) (c .before .before .before .before .before .before .before .before .before .before .before .before .before .before .before .take-bytes7 .ensures) (c .before .before .before .before .before .before .before .before .before .before .before .before .take-words .ensures) (c .before .before .before .before .before .before .before .before .before .take-bytes8 .ensures) (c .before .before .before .before .before .before .take-words2 .ensures) (c .before .before .before .before .timers-at .ensures) ∙ ap unpacked (cut-same (c .before .before .before .before .before .before .before .before .before .before .before .before .before .before .before .before .before .before .before .before .before .before .before .before .before .before .before .before .before .before .before .before .before .before .before .before .before .before .before .before .before .before .before .args .block .now) (c .before .before .before .before .before .before .before .before .before .before .before .before .before .before .before .before .before .before .before .before .before .before .before .before .before .before .before .before .before .before .before .before .before .before .before .before .before .before .before .before .before .before .before .pre))
 
 pub unpack-spec : {M : Type 1} → statement M
 unpack-spec =
@@ -119,16 +125,18 @@ unpack-spec =
     take-bytes-requires-5
     slice-aggregate-take-bytes-6
     take-bytes-requires-6
-    slice-aggregate-take-words
-    take-words-requires
     slice-aggregate-take-bytes-7
     take-bytes-requires-7
+    slice-aggregate-take-words
+    take-words-requires
+    slice-aggregate-take-bytes-8
+    take-bytes-requires-8
     slice-aggregate-take-words-2
     take-words-requires-2
     timers-at-requires
-    shared-slice-read-t40
-    shared-slice-read-t42
-    shared-slice-read-t44
-    shared-slice-read-t46
-    array-read-t59
+    shared-slice-read-tasks
+    shared-slice-read-regions
+    shared-slice-read-queues
+    shared-slice-read-elected
+    array-read-counter
     returns)

@@ -6,12 +6,12 @@ use mathlib.Core.Path.{_≡_, refl}
 use lib.ListN.{getD}
 use Rattle.rules.specs.Words.{isZero, below}
 use Rattle.rules.proofs.Counts.{below-again, below-end}
-use Rattle.block.specs.Layout.{unusedZero}
+use Rattle.block.specs.Layout.{timersPlace, unusedZero}
 use Rattle.block.proofs.layout.unused_zero.Statement.{statement}
 use Rattle.block.proofs.layout.unused_zero.Tie as tie
 
 abbrev Inv-loop : tie.InvT-loop
-Inv-loop block ok₀ i₀ ok i = (i ≤ 16) × (ok ≡ below i (λ k. isZero (getD block (2824 + 8 * k + 3) 0)))
+Inv-loop block ok₀ i₀ ok i = (i ≤ 16) × (ok ≡ below i (λ k. isZero (getD block (timersPlace + 8 * k + 3) 0)))
 
 abbrev μ-loop : tie.MeasureT-loop
 μ-loop block ok₀ i₀ ok i = 16 - i
@@ -39,11 +39,11 @@ loop-less : tie.Need-loop-less Inv-loop μ-loop
 loop-less c = search needs
 
 loop-again : tie.Need-loop-again Inv-loop μ-loop
-loop-again c = (search needs, below-again (c .before .before .loop .i) (λ k. isZero (getD (c .before .before .before .args .block .now) (2824 + 8 * k + 3) 0)) _ _ (c .before .before .loop .inv .1) refl)
+loop-again c = (search needs, below-again (c .before .before .loop .i) (λ k. isZero (getD (c .before .before .before .args .block .now) (timersPlace + 8 * k + 3) 0)) _ _ (c .before .before .loop .inv .1) refl)
 
 returns : tie.Need-returns Inv-loop μ-loop
 unfolding unusedZero
-returns c = below-end (c .before .loop .i) 16 (λ k. isZero (getD (c .before .before .args .block .now) (2824 + 8 * k + 3) 0)) _ (c .before .loop .inv .1) (search needs) (search needs)
+returns c = below-end (c .before .loop .i) 16 (λ k. isZero (getD (c .before .before .args .block .now) (timersPlace + 8 * k + 3) 0)) _ (c .before .loop .inv .1) (search needs) (search needs)
 
 pub unused-zero-spec : {M : Type 1} → statement M
 unused-zero-spec =

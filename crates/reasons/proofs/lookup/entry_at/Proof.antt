@@ -12,7 +12,7 @@ returns : tie.Need-returns
 returns c = search needs
 
 returns-2 : tie.Need-returns-2
-returns-2 c = past-end (c .before .args .entries .now) (c .before .args .q) (search ends)
+returns-2 c = past-end (c .before .args .counts .now) (c .before .args .q) (search ends)
 
 pub entry-at-spec : {M : Type 1} → statement M
 entry-at-spec = tie.close (tie.spec element-copy-out-result returns returns-2)

@@ -7,7 +7,7 @@ use Rattle.validity.proofs.Checked.{shaped-lent, check-is}
 use Rattle.validity.proofs.check.valid_of.Statement.{statement}
 use Rattle.validity.proofs.check.valid_of.Tie as tie
 
-long : (c : tie.Start) → Lengths (c .args .priority .now) (c .args .state .now) (c .args .arrived .now) (c .args .list .now) (c .args .operator .now) (c .args .holder .now) (c .args .bound .now) (c .args .lengths .now) (c .args .element .now) (c .args .criterion .now)
+long : (c : tie.Start) → Lengths (c .args .priority .now) (c .args .state .now) (c .args .arrived .now) (c .args .list .now) (c .args .operator .now) (c .args .holder .now) (c .args .entries .now) (c .args .bound .now) (c .args .lengths .now) (c .args .element .now) (c .args .criterion .now)
 long c = search needs
 
 timers-long : (c : tie.Start) → length (c .args .timers) ≡ 16
@@ -25,6 +25,9 @@ held-by-requires c κs = search needs
 regions-right-requires : tie.Need-regions-right-requires
 regions-right-requires c κs = search needs
 
+entries-right-requires : tie.Need-entries-right-requires
+entries-right-requires c κs = search needs
+
 holder-right-requires : tie.Need-holder-right-requires
 holder-right-requires c κs = search needs
 
@@ -41,7 +44,7 @@ timers-right-requires : tie.Need-timers-right-requires
 timers-right-requires c κs = search needs
 
 returns : tie.Need-returns
-returns c = check-is _ (shaped-lent _ _ _ _ _ _ _ _ _ _ _ _ _ _ _ _ (long (c .before .before .before .before .before .before .before .before .before)) (timers-long (c .before .before .before .before .before .before .before .before .before))) _ _ (c .before .before .before .before .before .before .held-by .ensures) (c .before .elected-by .ensures) _ _ _ _ _ _ _ (c .before .before .before .before .before .before .before .before .counts-right .ensures) (c .before .before .before .before .before .before .before .tasks-right .ensures) (c .before .before .before .before .before .regions-right .ensures) (c .before .before .before .before .holder-right .ensures) (c .before .before .before .queues-right .ensures) (c .before .before .criteria-right .ensures) (c .timers-right .ensures)
+returns c = check-is _ (shaped-lent _ _ _ _ _ _ _ _ _ _ _ _ _ _ _ _ _ (long (c .before .before .before .before .before .before .before .before .before .before)) (timers-long (c .before .before .before .before .before .before .before .before .before .before))) _ _ (c .before .before .before .before .before .before .before .held-by .ensures) (c .before .elected-by .ensures) _ _ _ _ _ _ _ _ (c .before .before .before .before .before .before .before .before .before .counts-right .ensures) (c .before .before .before .before .before .before .before .before .tasks-right .ensures) (c .before .before .before .before .before .before .regions-right .ensures) (c .before .before .before .before .before .entries-right .ensures) (c .before .before .before .before .holder-right .ensures) (c .before .before .before .queues-right .ensures) (c .before .before .criteria-right .ensures) (c .timers-right .ensures)
 
 pub valid-of-spec : {M : Type 1} → statement M
 valid-of-spec =
@@ -51,6 +54,7 @@ valid-of-spec =
     tasks-right-requires
     held-by-requires
     regions-right-requires
+    entries-right-requires
     holder-right-requires
     queues-right-requires
     criteria-right-requires

@@ -26,7 +26,7 @@ element-write-t : tie.Need-element-write-t Inv-loop μ-loop
 element-write-t c = search needs
 
 valid-of-requires : tie.Need-valid-of-requires Inv-loop μ-loop
-valid-of-requires c κs = let s = c .before .before .before .before .before .before .before .before .before .before .before .before .before .loop .inv .1 .1 .0 in simp length-set (omega arith)
+valid-of-requires c κs = let s = c .before .before .before .before .before .before .before .before .before .before .before .before .before .before .loop .inv .1 .1 .0 in simp length-set (omega arith)
 
 counted-requires : tie.Need-counted-requires Inv-loop μ-loop
 counted-requires c κs = search needs
@@ -41,7 +41,7 @@ loop-less : tie.Need-loop-less Inv-loop μ-loop
 loop-less c = search needs
 
 loop-again : tie.Need-loop-again Inv-loop μ-loop
-loop-again c = (search needs, (c .before .counted .ensures .1, (shape-kept (c .before .before .before .before .before .before .before .before .before .before .before .before .before .before .before .before .loop .t) (c .before .before .before .before .before .before .before .before .before .before .before .before .before .before .before .before .loop .x) (c .before .before .before .before .before .before .before .before .before .before .before .before .before .before .before .before .loop .inv .1 .1 .0), check-again _ _ _ _ _ _ _ _ _ (c .before .before .before .before .before .before .before .before .before .before .before .before .before .before .before .before .loop .inv .1 .1 .1) (c .before .before .valid-of .ensures) (c .before .counted .ensures .0) (c .next-of .ensures))))
+loop-again c = (search needs, (c .before .counted .ensures .1, (shape-kept (c .before .before .before .before .before .before .before .before .before .before .before .before .before .before .before .before .before .loop .t) (c .before .before .before .before .before .before .before .before .before .before .before .before .before .before .before .before .before .loop .x) (c .before .before .before .before .before .before .before .before .before .before .before .before .before .before .before .before .before .loop .inv .1 .1 .0), check-again _ _ _ _ _ _ _ _ _ (c .before .before .before .before .before .before .before .before .before .before .before .before .before .before .before .before .before .loop .inv .1 .1 .1) (c .before .before .valid-of .ensures) (c .before .counted .ensures .0) (c .next-of .ensures))))
 
 returns : tie.Need-returns Inv-loop μ-loop
 returns c = check-end _ _ _ _ _ _ _ (c .before .loop .inv .1 .1 .1) (search needs) (search needs)
