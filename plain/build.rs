@@ -1,0 +1,11 @@
+//! Links the proved executive, if it is asked for: TANKWESHO_LIBRARY is the folder of its static library.
+
+fn main() {
+    println!("cargo:rerun-if-env-changed=TANKWESHO_LIBRARY");
+    if std::env::var_os("CARGO_FEATURE_PROVED").is_some() {
+        let folder = std::env::var("TANKWESHO_LIBRARY").expect("TANKWESHO_LIBRARY names the folder of libblock.a");
+        println!("cargo:rerun-if-changed={folder}/libblock.a");
+        println!("cargo:rustc-link-search=native={folder}");
+        println!("cargo:rustc-link-lib=static=block");
+    }
+}

@@ -1,0 +1,258 @@
+//! Both executives on the same blocks: valid ones call by call, damaged ones, ones near the counter's end, and ones of wrong size.
+
+use plain::answer::{Call, OUTSIDE};
+use plain::author::{Author, Manner, EDGES};
+use plain::block::{self, SIZE};
+use plain::configuration::Configuration;
+use plain::logs::MEASURED;
+use plain::proved;
+use plain::random::Random;
+use plain::table::Table;
+
+use crate::Compared;
+
+/// How many logs are replayed on blocks, and how many of their tables are damaged.
+const LOGS: u64 = 40;
+const CALLS: u64 = 1_000;
+
+const SMALL: Configuration = Configuration {
+    tasks: 3,
+    regions: 2,
+    queues: 2,
+    priorities: &[5, 5, 2],
+    bounds: &[2, 5],
+};
+
+const MANNER: Manner = Manner {
+    slip: 24,
+    longest_delay: 40,
+    kept_alive: 2,
+};
+
+/// What is compared, and how.
+type Part = (&'static str, fn() -> Compared);
+
+pub fn compare() -> Compared {
+    let parts: [Part; 5] = [
+        ("fresh blocks", fresh_blocks),
+        ("blocks call by call", replayed),
+        ("damaged blocks", damaged),
+        ("blocks at the counter's end", near_the_end),
+        ("blocks of other sizes", other_sizes),
+    ];
+    let mut total = 0;
+    for (name, part) in parts {
+        let answers = part()?;
+        println!("{name}: {answers} answers agree");
+        total += answers;
+    }
+    Ok(total)
+}
+
+/// An author with either configuration by turns.
+fn author(seed: u64) -> (Configuration<'static>, Author) {
+    let configuration = if seed.is_multiple_of(2) { MEASURED } else { SMALL };
+    (configuration, Author::new(&configuration, MANNER, Random::new(seed)))
+}
+
+/// The block of a table that a log of a seed leads to.
+fn deep(seed: u64) -> Vec<u8> {
+    let (_, mut author) = author(seed);
+    (0..CALLS * 4).for_each(|_| {
+        author.call();
+    });
+    author.table().packed()
+}
+
+fn agree(what: &dyn Fn() -> String, proved: (u64, &[u8]), plain: (u64, &[u8])) -> Compared {
+    if proved == plain {
+        return Ok(1);
+    }
+    let bytes = proved.1.iter().zip(plain.1).position(|(one, other)| one != other);
+    let place = bytes.map_or(String::new(), |place| format!("; the blocks differ at byte {place}"));
+    Err(format!(
+        "{}: proved answers {:016X}, plain {:016X}{place}",
+        what(),
+        proved.0,
+        plain.0
+    ))
+}
+
+/// One call on two copies of a block: the same answer and the same block after it.
+fn call_agrees(what: &str, before: &[u8], call: &Call) -> Result<Vec<u8>, String> {
+    let (mut ours, mut theirs) = (before.to_vec(), before.to_vec());
+    let answers = (proved::call(&mut ours, call), block::call(&mut theirs, call));
+    agree(&|| format!("{what}, {call:X?}"), (answers.0, &ours), (answers.1, &theirs))?;
+    Ok(theirs)
+}
+
+fn query_agrees(what: &str, block: &[u8], query: u8, caller: u8, a: u32, b: u32) -> Compared {
+    let answers = (proved::query(block, query, caller, a, b), block::query(block, query, caller, a, b));
+    agree(
+        &|| format!("{what}, query {query} of {caller}, {a}, {b}"),
+        (answers.0, &[]),
+        (answers.1, &[]),
+    )
+}
+
+fn fresh_blocks() -> Compared {
+    let mut random = Random::new(3);
+    let mut answers = 0;
+    for round in 0..4_000 {
+        let mut count = |most: u32| if random.one_in(6) { random.below(256) } else { random.within(0, most) } as u8;
+        let (tasks, regions, queues) = (count(33), count(17), count(9));
+        let mut list = |near: u8, byte: &dyn Fn(&mut Random) -> u8| -> Vec<u8> {
+            let short = random.one_in(8);
+            let length = if short { random.below(40) } else { near.into() };
+            (0..length).map(|_| byte(&mut random)).collect()
+        };
+        let priorities = list(tasks, &|random| random.below(256) as u8);
+        let bounds = list(queues, &|random| if random.one_in(20) { random.below(256) } else { random.within(1, 64) } as u8);
+        let configuration = Configuration {
+            tasks,
+            regions,
+            queues,
+            priorities: &priorities,
+            bounds: &bounds,
+        };
+        let (mut ours, mut theirs) = (vec![round as u8; SIZE], vec![round as u8; SIZE]);
+        let both = (proved::fresh(&mut ours, &configuration), block::fresh(&mut theirs, &configuration));
+        answers += agree(&|| format!("{configuration:?}"), (both.0, &ours), (both.1, &theirs))?;
+    }
+    Ok(answers)
+}
+
+fn replayed() -> Compared {
+    let mut answers = 0;
+    for seed in 0..LOGS {
+        let (configuration, mut author) = author(seed);
+        let mut block = vec![0; SIZE];
+        block::fresh(&mut block, &configuration);
+        for number in 0..CALLS {
+            let (call, _) = if number % 4 == 3 { author.hostile_call() } else { author.call() };
+            block = call_agrees(&format!("seed {seed}, call {number}"), &block, &call)?;
+            let number = number as u32;
+            let caller = if number.is_multiple_of(3) {
+                OUTSIDE
+            } else {
+                author.table().reported()
+            };
+            query_agrees("after it", &block, (number % 6) as u8, caller, number % 40, number % 5 / 2)?;
+            answers += 2;
+        }
+        if block != author.table().packed() {
+            return Err(format!("seed {seed}: the last block is not the last table's"));
+        }
+    }
+    Ok(answers)
+}
+
+/// Every byte of deep blocks in turn with several other values, then whole numbers with values at their bounds.
+fn damaged() -> Compared {
+    let mut random = Random::new(5);
+    let mut answers = 0;
+    for seed in 0..LOGS {
+        let block = deep(seed);
+        for place in 0..SIZE {
+            let was = block[place];
+            let drawn = random.below(256) as u8;
+            for value in [0, 1, 255, was ^ 1, was.wrapping_add(1), was.wrapping_sub(1), drawn] {
+                let in_turn = (seed + u64::from(value) + place as u64).is_multiple_of(4);
+                if value == was || !in_turn {
+                    continue;
+                }
+                let mut changed = block.clone();
+                changed[place] = value;
+                answers += asked(&format!("seed {seed}, byte {place} is {value}"), &changed, &mut random)?;
+            }
+        }
+        for _ in 0..1_000 {
+            let mut changed = block.clone();
+            for _ in 0..random.within(1, 2) {
+                let width = random.of(&[2, 4]);
+                let place = random.below((SIZE / width) as u32) as usize * width;
+                let value = random.of(&EDGES).to_le_bytes();
+                changed[place..place + width].copy_from_slice(&value[..width]);
+            }
+            answers += asked(&format!("seed {seed}, two numbers changed"), &changed, &mut random)?;
+        }
+    }
+    Ok(answers)
+}
+
+/// One call and one query on a block that may be valid or not.
+fn asked(what: &str, block: &[u8], random: &mut Random) -> Compared {
+    let caller = if random.one_in(3) { OUTSIDE } else { block[3] };
+    let call = Call {
+        caller,
+        operation: random.below(14) as u8,
+        a: random.below(4),
+        b: random.below(4),
+        c: random.within(1, 16),
+    };
+    call_agrees(what, block, &call)?;
+    query_agrees(what, block, random.below(6) as u8, caller, random.below(4), random.below(2))?;
+    Ok(2)
+}
+
+/// The counter and every date moved on alike, so that the next calls lead over the counter's end.
+fn near_the_end() -> Compared {
+    let mut answers = 0;
+    for seed in 0..LOGS {
+        let (_, mut author) = author(seed);
+        (0..CALLS).for_each(|_| {
+            author.call();
+        });
+        let mut table = author.table().clone();
+        let shift = u32::MAX.wrapping_sub(seed as u32 % 8).wrapping_sub(table.ticks);
+        table.ticks = table.ticks.wrapping_add(shift);
+        for timer in table.timers.iter_mut().filter(|timer| timer.armed != 0) {
+            timer.date = timer.date.wrapping_add(shift);
+        }
+        let mut author = author.with(table);
+        let mut block = author.table().packed();
+        for number in 0..CALLS {
+            let tick = Call {
+                caller: OUTSIDE,
+                operation: 12,
+                a: 0,
+                b: 0,
+                c: 0,
+            };
+            let call = if number % 16 == 0 { author.made(tick).0 } else { author.call().0 };
+            block = call_agrees(&format!("seed {seed}, call {number} at the counter's end"), &block, &call)?;
+            answers += 1;
+        }
+        if Table::unpacked(&block).is_none_or(|table| table.ticks > CALLS as u32) {
+            return Err(format!("seed {seed}: the counter did not start again"));
+        }
+    }
+    Ok(answers)
+}
+
+fn other_sizes() -> Compared {
+    let block = deep(0);
+    let mut random = Random::new(7);
+    let mut answers = 0;
+    for size in [0, 1, 4, SIZE - 16, SIZE - 1, SIZE + 1, SIZE + 16, 2 * SIZE] {
+        let mut other = block.clone();
+        other.resize(size, 0);
+        let caller = block[3];
+        for operation in 0..14 {
+            let call = Call {
+                caller,
+                operation,
+                a: random.below(3),
+                b: 0,
+                c: 1,
+            };
+            call_agrees(&format!("size {size}"), &other, &call)?;
+            query_agrees(&format!("size {size}"), &other, operation, caller, 0, 0)?;
+            answers += 2;
+        }
+        let (mut ours, mut theirs) = (other.clone(), other);
+        let both = (proved::fresh(&mut ours, &MEASURED), block::fresh(&mut theirs, &MEASURED));
+        answers += agree(&|| format!("fresh of size {size}"), (both.0, &ours), (both.1, &theirs))?;
+    }
+    Ok(answers)
+}

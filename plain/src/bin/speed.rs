@@ -1,0 +1,235 @@
+//! Times the proved executive and the plain one on the measured log, turn by turn in one process.
+//!
+//!     speed BENCH PLAIN_BENCH LOG [REPEATS]
+//!
+//! LOG is where the measured log is written for the two benches. Times are processor time. The log is cut into pieces, each side runs a
+//! piece before any runs the next, and each piece is timed by itself: what else runs on the machine then disturbs all sides alike.
+
+use std::fs::{self, File};
+use std::process::{Command, ExitCode, Stdio};
+
+use plain::answer::{Answer, Call};
+use plain::logs::{measured, written, MEASURED, MEASURED_SEED};
+use plain::table::Table;
+
+const CALLS: usize = 1_000_000;
+const PIECE: usize = 5_000;
+
+/// Processor time, as the system counts it.
+mod clock {
+    #[repr(C)]
+    #[derive(Default)]
+    struct Time {
+        seconds: i64,
+        nanoseconds: i64,
+    }
+
+    #[repr(C)]
+    #[derive(Default)]
+    struct Usage {
+        user: [i64; 2],
+        system: [i64; 2],
+        rest: [i64; 14],
+    }
+
+    const THIS_PROCESS: i32 = 2;
+    const ENDED_CHILDREN: i32 = -1;
+
+    extern "C" {
+        fn clock_gettime(clock: i32, time: *mut Time) -> i32;
+        fn getrusage(who: i32, usage: *mut Usage) -> i32;
+    }
+
+    /// Nanoseconds of this process so far.
+    pub fn own() -> f64 {
+        let mut time = Time::default();
+        // SAFETY: `Time` has the layout of C's `struct timespec` on 64-bit Linux, and lives through the call.
+        let answer = unsafe { clock_gettime(THIS_PROCESS, &mut time) };
+        assert_eq!(answer, 0, "clock_gettime");
+        time.seconds as f64 * 1e9 + time.nanoseconds as f64
+    }
+
+    /// Nanoseconds of the programs that this one has run so far.
+    pub fn children() -> f64 {
+        let mut usage = Usage::default();
+        // SAFETY: `Usage` has the layout of C's `struct rusage` on 64-bit Linux, and lives through the call.
+        let answer = unsafe { getrusage(ENDED_CHILDREN, &mut usage) };
+        assert_eq!(answer, 0, "getrusage");
+        let [seconds, micros] = [0, 1].map(|part| (usage.user[part] + usage.system[part]) as f64);
+        seconds * 1e9 + micros * 1e3
+    }
+}
+
+/// A number over all answers, so that none is left out and the sides can be held to each other.
+fn summed(sum: u64, answer: u64) -> u64 {
+    sum.rotate_left(5) ^ answer
+}
+
+/// A run under way: it takes a piece of the log and gives the sum of its answers.
+type Run = Box<dyn FnMut(&[Call]) -> u64>;
+
+/// One way to run the log: its name, the plain side that it is held to, and how a run begins.
+struct Side {
+    name: &'static str,
+    against: usize,
+    begin: fn() -> Run,
+}
+
+/// A further way to run the proved side (by value, without the check) is a further entry here.
+const SIDES: &[Side] = &[
+    Side {
+        name: "plain, in place",
+        against: 0,
+        begin: || plain_run(Table::call),
+    },
+    Side {
+        name: "plain, in place, no validity check",
+        against: 1,
+        begin: || plain_run(Table::call_on_valid),
+    },
+    #[cfg(feature = "proved")]
+    Side {
+        name: "proved, on a block",
+        against: 0,
+        begin: proved_on_block,
+    },
+];
+
+fn plain_run(call: impl Fn(&mut Table, &Call) -> Answer + 'static) -> Run {
+    let mut table = MEASURED.fresh().expect("in range");
+    Box::new(move |piece| piece.iter().fold(0, |sum, one| summed(sum, call(&mut table, one).packed())))
+}
+
+#[cfg(feature = "proved")]
+fn proved_on_block() -> Run {
+    let mut block = vec![0; plain::block::SIZE];
+    plain::proved::fresh(&mut block, &MEASURED);
+    Box::new(move |piece| piece.iter().fold(0, |sum, one| summed(sum, plain::proved::call(&mut block, one))))
+}
+
+/// The times of one thing, by piece and repeat.
+#[derive(Clone)]
+struct Times {
+    pieces: Vec<Vec<f64>>,
+}
+
+impl Times {
+    fn new(pieces: usize) -> Self {
+        Times {
+            pieces: vec![Vec::new(); pieces],
+        }
+    }
+
+    /// Nanoseconds a call, each piece in its least time.
+    fn least(&self) -> f64 {
+        self.each(|times| times[0])
+    }
+
+    /// Nanoseconds a call, each piece in its median time.
+    fn median(&self) -> f64 {
+        self.each(|times| times[times.len() / 2])
+    }
+
+    fn each(&self, pick: impl Fn(&[f64]) -> f64) -> f64 {
+        let sorted = self.pieces.iter().map(|times| {
+            let mut times = times.clone();
+            times.sort_by(f64::total_cmp);
+            pick(&times)
+        });
+        sorted.sum::<f64>() / CALLS as f64
+    }
+}
+
+fn timed<T>(now: impl Fn() -> f64, run: impl FnOnce() -> T) -> (f64, T) {
+    let before = now();
+    let made = run();
+    (now() - before, made)
+}
+
+fn show(name: &str, times: &Times, against: &Times) {
+    println!(
+        "{name:36}{:10.1}{:10.1}{:10.2}{:10.2}",
+        times.least(),
+        times.median(),
+        times.least() / against.least(),
+        times.median() / against.median()
+    );
+}
+
+/// The calls in one process: each piece by every side in turn, the whole log again and again.
+fn in_process(calls: &[Call], repeats: usize) -> Result<(), String> {
+    let mut times = vec![Times::new(calls.len().div_ceil(PIECE)); SIDES.len()];
+    for _ in 0..repeats {
+        let mut runs: Vec<Run> = SIDES.iter().map(|side| (side.begin)()).collect();
+        for (number, piece) in calls.chunks(PIECE).enumerate() {
+            let mut expected = None;
+            for (at, run) in runs.iter_mut().enumerate() {
+                let (time, sum) = timed(clock::own, || run(piece));
+                if *expected.get_or_insert(sum) != sum {
+                    return Err(format!("{}: other answers in piece {number}", SIDES[at].name));
+                }
+                times[at].pieces[number].push(time);
+            }
+        }
+    }
+    for (side, own) in SIDES.iter().zip(&times) {
+        show(side.name, own, &times[side.against]);
+    }
+    Ok(())
+}
+
+fn bench_time(bench: &str, log: &str) -> Result<f64, String> {
+    let run = || -> std::io::Result<bool> {
+        let status = Command::new(bench).stdin(File::open(log)?).stdout(Stdio::null()).status()?;
+        Ok(status.success())
+    };
+    match timed(clock::children, run) {
+        (time, Ok(true)) => Ok(time),
+        (_, Ok(false)) => Err(format!("{bench} failed")),
+        (_, Err(error)) => Err(format!("{bench}: {error}")),
+    }
+}
+
+/// Both benches on the log as a file, lines in and lines out.
+fn whole_benches(proved: &str, plain: &str, log: &str, repeats: usize) -> Result<(), String> {
+    let (mut proved_times, mut plain_times) = (Times::new(1), Times::new(1));
+    for _ in 0..repeats {
+        plain_times.pieces[0].push(bench_time(plain, log)?);
+        proved_times.pieces[0].push(bench_time(proved, log)?);
+    }
+    show("plain bench, lines in and out", &plain_times, &plain_times);
+    show("proved bench, lines in and out", &proved_times, &plain_times);
+    Ok(())
+}
+
+fn measure(words: &[String]) -> Result<(), String> {
+    let [proved, plain, log, rest @ ..] = words else {
+        return Err("usage: speed BENCH PLAIN_BENCH LOG [REPEATS]".into());
+    };
+    let repeats = rest
+        .first()
+        .map_or(Ok(11), |word| word.parse())
+        .map_err(|_| "REPEATS is a number")?;
+    let (calls, mix, _) = measured(MEASURED_SEED, CALLS);
+    print!("{CALLS} calls, seed {MEASURED_SEED}; operations by status\n{mix}");
+    let amiss = mix.amiss();
+    if !amiss.is_empty() {
+        return Err(amiss.join("\n"));
+    }
+    fs::write(log, written(&MEASURED, &calls)).map_err(|error| format!("{log}: {error}"))?;
+    println!("\nnanoseconds a call over {repeats} repeats, then the ratio to the plain side");
+    println!("{:36}{:>10}{:>10}{:>10}{:>10}", "", "least", "median", "least", "median");
+    in_process(&calls, repeats)?;
+    whole_benches(proved, plain, log, repeats)
+}
+
+fn main() -> ExitCode {
+    let words: Vec<String> = std::env::args().skip(1).collect();
+    match measure(&words) {
+        Ok(()) => ExitCode::SUCCESS,
+        Err(reason) => {
+            eprintln!("{reason}");
+            ExitCode::FAILURE
+        }
+    }
+}
