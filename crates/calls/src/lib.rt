@@ -1,23 +1,23 @@
 // One call: refused with the first reason that applies, or done and the elected task found afresh.
+use conditions::met_by;
 use effects::region_after;
 use effects::target_of;
 use effects::task_after;
 use effects::timer_after;
+use election::elected_by;
 use queues::close_criteria;
 use queues::close_elements;
 use queues::place_of;
 use reasons::pick;
 use reasons::reported_by;
 use refusals::refusal_of;
+use regions::held_by;
 use rules::Answer;
 use rules::Call;
 use rules::Done;
 use rules::Region;
 use rules::Table;
 use rules::Task;
-use tasks::elected_by;
-use tasks::held_by;
-use tasks::met_by;
 use timers::Rows;
 use timers::disarmed_all;
 use timers::later_by;

@@ -1,10 +1,10 @@
 // What an accepted call does to one task, one region or one timer.
+use conditions::met_by;
+use conditions::signalled_by;
 use rules::Call;
 use rules::Region;
 use rules::Task;
 use rules::Timer;
-use tasks::met_by;
-use tasks::signalled_by;
 use timers::armed_timer;
 use timers::disarmed_timer;
 use timers::later_by;

@@ -1,11 +1,11 @@
 // The five queries: each answers and changes nothing.
+use conditions::met_by;
 use reasons::entry_at;
 use reasons::pick;
 use reasons::reported_by;
 use reasons::state_at;
 use rules::Answer;
 use rules::Table;
-use tasks::met_by;
 use validity::valid_of;
 ghost use mathlib.Core.Path.{_≡_};
 ghost use mathlib.Core.Bool.{not, cond, _||_};

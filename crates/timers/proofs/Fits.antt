@@ -14,7 +14,7 @@ use Rattle.rules.specs.Words.{isZero, all}
 use Rattle.rules.specs.Timers.{ahead, isArmed, isDue}
 use Rattle.rules.specs.Validity.{timerRight}
 use Rattle.rules.proofs.Bools.{same-test}
-use Rattle.tasks.proofs.Rows.{picked-is}
+use Rattle.conditions.proofs.Picked.{picked-is}
 use Rattle.timers.specs.Fits.{timerFits}
 
 -- the difference that wraps

@@ -1,13 +1,13 @@
 // The validity check over a table whose arrays are lent: every rule of the list, by subject.
 use super::counts::counts_right;
+use election::elected_by;
 use queues::criteria_right;
 use queues::queues_right;
+use regions::entries_right;
+use regions::held_by;
+use regions::holder_right;
+use regions::regions_right;
 use rules::Timer;
-use tasks::elected_by;
-use tasks::entries_right;
-use tasks::held_by;
-use tasks::holder_right;
-use tasks::regions_right;
 use tasks::tasks_right;
 use timers::timers_right;
 ghost use mathlib.Core.Path.{_≡_};

@@ -1,0 +1,119 @@
+// Election: the ready task of smallest priority number, and of equals the lowest task number.
+ghost use mathlib.Core.Path.{_≡_};
+ghost use mathlib.Core.Bool.{cond, _&&_};
+ghost use Prim.Native.Nat.{_+_, _^_, _<_, _≤_, min};
+ghost use lib.Count.{trailingZeros};
+ghost use lib.Dec.{eqb};
+ghost use lib.ListN.{length};
+ghost use Rattle.rules.specs.Numbers.{taskRoom};
+ghost use Rattle.rules.specs.Election.{smallest, lowest, readyAt, priorityAt, bestReady};
+ghost use Rattle.rules.proofs.Election.{electedBy};
+ghost use Rattle.election.specs.Words.{word};
+
+// What is added to the priority number of a task that is not ready: enough to stand behind all of them, and behind 256.
+fn behind(state: u8) -> u16
+    ensures { λ r. ⌜ r ≡ cond (eqb state 1) 0 512 ⌝ }
+{
+    if state == 1 { 0 } else { 512 }
+}
+
+// Where a task stands. By this one number both walks below treat every task alike, without a branch, and vectorise.
+fn rank(state: u8, priority: u8) -> u16
+    ensures { λ r. ⌜ r ≡ cond (eqb state 1) 0 512 + priority ⌝ }
+{
+    behind(state) + (priority as u16)
+}
+
+// The smaller of p and the task's priority, if the task is ready.
+fn lesser(state: u8, priority: u8, p: u16) -> u16
+    requires { ⌜ p ≤ 256 ⌝ }
+    ensures { λ r. ⌜ r ≡ cond (eqb state 1) (min priority p) p ⌝ }
+{
+    let mine = rank(state, priority);
+    if mine < p { mine } else { p }
+}
+
+// The smallest priority number of a ready task, 256 where none is ready.
+fn smallest_of<'a>(state: &'a [u8; 32], priority: &'a [u8; 32]) -> u16
+    requires { ⌜ length (now state) ≡ 32 ⌝ }
+    requires { ⌜ length (now priority) ≡ 32 ⌝ }
+    ensures { λ r. ⌜ r ≡ smallest taskRoom (readyAt (now (state .entry))) (priorityAt (now (priority .entry))) ⌝ }
+{
+    let mut p: u16 = 256;
+    for i in 0..32 {
+        p = lesser(state[i], priority[i], p);
+    }
+    p
+}
+
+fn has_it(state: u8, priority: u8, p: u16) -> bool
+    requires { ⌜ p ≤ 256 ⌝ }
+    ensures { λ r. ⌜ r ≡ (eqb state 1 && eqb priority p) ⌝ }
+{
+    rank(state, priority) == p
+}
+
+// Bit i of a word, if it is to be set.
+fn bit_of(set: bool, i: u32) -> u32
+    requires { ⌜ i < 32 ⌝ }
+    ensures { λ r. ⌜ r ≡ cond set (2 ^ i) 0 ⌝ }
+{
+    let one: u32 = 1;
+    if set { one << i } else { 0 }
+}
+
+// The ready tasks of priority p, as bits.
+fn word_of<'a>(state: &'a [u8; 32], priority: &'a [u8; 32], p: u16) -> u32
+    requires { ⌜ length (now state) ≡ 32 ⌝ }
+    requires { ⌜ length (now priority) ≡ 32 ⌝ }
+    requires { ⌜ p ≤ 256 ⌝ }
+    ensures { λ r. ⌜ r ≡ word taskRoom (λ i. readyAt (now (state .entry)) i && eqb (priorityAt (now (priority .entry)) i) p) ⌝ }
+{
+    let mut w: u32 = 0;
+    for i in 0..32 {
+        w = w | bit_of(has_it(state[i], priority[i], p), i as u32);
+    }
+    w
+}
+
+// The place of a word's lowest set bit: the number of zeros behind it.
+fn lowest_bit(w: u32) -> u32
+    ensures { λ r. ⌜ r ≡ trailingZeros 32 w ⌝ }
+{
+    u32::trailing_zeros(w)
+}
+
+// The lowest number of a ready task of priority p, 255 where there is none: the empty word has no bit, and would give 32.
+fn lowest_of<'a>(state: &'a [u8; 32], priority: &'a [u8; 32], p: u16) -> u8
+    requires { ⌜ length (now state) ≡ 32 ⌝ }
+    requires { ⌜ length (now priority) ≡ 32 ⌝ }
+    requires { ⌜ p ≤ 256 ⌝ }
+    ensures { λ r. ⌜ r ≡ lowest taskRoom (λ i. readyAt (now (state .entry)) i && eqb (priorityAt (now (priority .entry)) i) p) ⌝ }
+{
+    let w = word_of(state, priority, p);
+    if w == 0 {
+        return 255;
+    }
+    lowest_bit(w) as u8
+}
+
+pub fn best_ready<'a>(state: &'a [u8; 32], priority: &'a [u8; 32]) -> u8
+    requires { ⌜ length (now state) ≡ 32 ⌝ }
+    requires { ⌜ length (now priority) ≡ 32 ⌝ }
+    ensures { λ r. ⌜ r ≡ bestReady (now (state .entry)) (now (priority .entry)) ⌝ }
+{
+    let p = smallest_of(state, priority);
+    lowest_of(state, priority, p)
+}
+
+// The holder behind the entry v, if there is one; else the best ready task.
+pub fn elected_by<'a>(v: u8, state: &'a [u8; 32], priority: &'a [u8; 32]) -> u8
+    requires { ⌜ length (now state) ≡ 32 ⌝ }
+    requires { ⌜ length (now priority) ≡ 32 ⌝ }
+    ensures { λ r. ⌜ r ≡ electedBy v (now (state .entry)) (now (priority .entry)) ⌝ }
+{
+    if v == 0 {
+        return best_ready(state, priority);
+    }
+    v - 1
+}
