@@ -31,8 +31,8 @@ use Rattle.rules.proofs.Bools.{or-right}
 use Rattle.rules.proofs.Queues.{Sound, withStores, queue-length, sent-stored}
 use Rattle.rules.proofs.Validity.{Parts, parts-of, sound, bound-below}
 use Rattle.rules.proofs.Refusals.{Accepted, accepted-facts}
-use Rattle.queues.specs.Places.{placeIn, closedIn}
-use Rattle.queues.proofs.Places.{place-is, none-is, given-is, taken-is}
+use Rattle.retrieving.specs.Places.{placeIn, closedIn}
+use Rattle.retrieving.proofs.Places.{place-is, none-is, given-is, taken-is}
 use Rattle.effects.specs.Effects.{target, taskAfter, regionAfter}
 use Rattle.refusals.proofs.Refused.{room, send-there, retrieve-there}
 use Rattle.calls.proofs.Accepted.{timersLeft, still-runs, task-effect, region-effect}

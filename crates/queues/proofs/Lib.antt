@@ -1,3 +1,2 @@
--- Laws for this crate's proofs and for its callers'.
+-- Laws for this crate's proofs and for those of `retrieving`.
 pub mod Loops
-pub mod Places

@@ -1,22 +1,19 @@
--- Laws of the loops over the store, a turn and the end of each, over the list of entries whatever their width.
-use Prim.Native.Nat.{ℕ, suc, _+_, _-_, _^_, _<_, _≤_, max}
-use mathlib.Core.Path.{_≡_, sym, ap, _∙_}
-use mathlib.Core.Logic.{_≢_}
-use mathlib.Core.Bool.{Bool, true, _&&_, and-assoc, and-true}
-use mathlib.Core.List.{List, [], _∷_, _++_, append-assoc, append-nil}
+-- Laws of the loops over what lies behind a queue, a turn and the end of each, over the list of entries whatever their width.
+use Prim.Native.Nat.{ℕ, _+_, _^_, _<_, _≤_}
+use mathlib.Core.Path.{_≡_}
+use mathlib.Core.Bool.{Bool, _&&_, and-assoc, and-true}
+use mathlib.Core.List.{List, []}
 use native.Mathlib.Numerals.{add-one}
 use native.Mathlib.Omega.{arith}
 use lib.Bits.{bitOr, or-add-and, and-le-l, and-le-r, or-lt}
-use lib.Dec.{ltb, leb}
-use lib.ListN.{length, take, drop, getD, set, drop-of-length-le, length-append, length-take, take-append-drop}
-use lib.Seq.{slice, slice-cons, slice-empty, length-slice, length-take-le, take-all, take-suc, drop-cons, drop-append-le, set-at, getD-append-add, getD-drop}
-use borrow.Author.Tests.{eqb-true, eq-eqb, ne-eqb, ltb-true, leb-true, lt-ltb, le-leb}
+use lib.Dec.{ltb}
+use lib.ListN.{length, take, getD, drop-of-length-le, length-take}
+use lib.Seq.{slice, slice-cons, take-all}
+use borrow.Author.Tests.{eqb-true, eq-eqb, ltb-true, lt-ltb}
 use Rattle.rules.specs.Numbers.{storeSize}
 use Rattle.rules.specs.Words.{isZero, every}
-use Rattle.rules.specs.Queues.{largest, wanted, before}
 use Rattle.rules.specs.Validity.{criterionInRange, criteriaInRange}
 use Rattle.rules.proofs.Bools.{and-left, and-right, both, same-test}
-use Rattle.queues.specs.Places.{placeIn, closedIn}
 
 -- ---- joined bits
 
@@ -48,7 +45,7 @@ or-below k a b =
     lt-ltb (bitOr a b) m (or-lt k a b x y))
 
 -- nothing is left of a part from its end on
-nothing-left {ℓ} : {A : Type ℓ} (i to : ℕ) (l : List A) → to ≤ i → slice i to l ≡ []
+pub nothing-left {ℓ} : {A : Type ℓ} (i to : ℕ) (l : List A) → to ≤ i → slice i to l ≡ []
 nothing-left i to l h = let short : length (take to l) ≤ i = rw length-take (omega arith) in drop-of-length-le (take to l) short
 
 -- a test that joined bits pass where all do: the bits so far, and what is still to be read
@@ -82,93 +79,3 @@ module _ (i to bits : ℕ) (l : List ℕ) {z : Bool} where
 pub range-start : (l : List ℕ) → length l ≡ storeSize → every criterionInRange (slice 0 storeSize l) ≡ criteriaInRange l
 unfolding criteriaInRange
 range-start l h = rw (take-all storeSize l (omega arith))
-
--- ---- the largest criterion
-
-pub largest-again : (i to most next : ℕ) (l : List ℕ) {z : ℕ} → max most (largest (slice i to l)) ≡ z → next ≡ max most (getD l i 0)
-    → to ≤ length l → i < to → max next (largest (slice (i + 1) to l)) ≡ z
-unfolding largest
-largest-again i to most next l {z} k e h g =
-    let rest : max most (max (getD l i 0) (largest (slice (suc i) to l))) ≡ z = rw (slice-cons i to l 0) at k in
-    rw add-one (omega arith)
-
-pub largest-end : (i to most : ℕ) (l : List ℕ) {z : ℕ} → max most (largest (slice i to l)) ≡ z → to ≤ i → most ≡ z
-unfolding largest
-largest-end i to most l {z} k h = let rest : max most 0 ≡ z = rw (nothing-left i to l) at k in omega arith
-
--- ---- the oldest of a criterion, where x is the entry read
-
-module _ (c i to x : ℕ) (l : List ℕ) {z : ℕ} where
-  pub oldest-again : i + before c (slice i to l) ≡ z → x ≡ getD l i 0 → (x ≡ c → ⊥) → to ≤ length l → i < to
-      → i + 1 + before c (slice (i + 1) to l) ≡ z
-  unfolding before
-  oldest-again k e n h g =
-      let other : getD l i 0 ≢ c = λ d. n (e ∙ d) in
-      let rest : i + suc (before c (slice (suc i) to l)) ≡ z = simp (ne-eqb (getD l i 0) c other) at (rw (slice-cons i to l 0) at k) in
-      rw add-one (omega arith)
-
-  pub oldest-here : i + before c (slice i to l) ≡ z → x ≡ getD l i 0 → x ≡ c → to ≤ length l → i < to → i ≡ z
-  unfolding before
-  oldest-here k e d h g =
-      let rest : i + 0 ≡ z = simp (eq-eqb (getD l i 0) c (sym e ∙ d)) at (rw (slice-cons i to l 0) at k) in
-      omega arith
-
-pub oldest-end : (c i to : ℕ) (l : List ℕ) {z : ℕ} → i + before c (slice i to l) ≡ z → i ≤ to → to ≤ i → to ≡ z
-unfolding before
-oldest-end c i to l {z} k h g = let rest : i + 0 ≡ z = rw (nothing-left i to l) at k in omega arith
-
-pub place-found : (from to c w r : ℕ) (l : List ℕ) → from ≤ to → leb to storeSize ≡ true → w ≡ wanted c (slice from to l)
-    → r ≡ from + before w (slice from to l) → r ≡ placeIn from to c l
-unfolding placeIn
-place-found from to c w r l h t e d = rw (le-leb from to h, t, ← e) d
-
--- ---- a part moved one down
-
-abbrev moved : ℕ → ℕ → List ℕ → List ℕ
-moved at i l = take at l ++ slice (suc at) (suc i) l
-
--- the places from `at` up to i hold what stood one further
-unfoldable pub shifted : ℕ → ℕ → List ℕ → List ℕ
-shifted at i l = moved at i l ++ drop i l
-
-slice-snoc {ℓ} : {A : Type ℓ} (f t : ℕ) (l : List A) (d : A) → f ≤ t → t < length l → slice f (suc t) l ≡ slice f t l ++ (getD l t d ∷ [])
-slice-snoc f t l d h g =
-    ap (drop f) (take-suc l t d g) ∙ drop-append-le f (take t l) (getD l t d ∷ []) (rw (length-take-le t l (omega arith)) h)
-
-module _ (at i : ℕ) (l : List ℕ) (h : at ≤ i) (g : i < length l) where
-  moved-length : length (moved at i l) ≡ i
-  moved-length =
-      simp (length-append, length-take-le at l (omega arith), length-slice (suc at) (suc i) l (omega arith)) (omega arith)
-
-  shift-set : (v : ℕ) → set (shifted at i l) i v ≡ moved at i l ++ v ∷ drop (suc i) l
-  unfolding shifted
-  shift-set v = rw (drop-cons l i 0) (set-at (moved at i l) (getD l i 0) (drop (suc i) l) v i moved-length)
-
-  shift-get : getD (shifted at i l) (i + 1) 0 ≡ getD l (i + 1) 0
-  unfolding shifted
-  shift-get =
-      ap (λ n. getD (moved at i l ++ drop i l) (n + 1) 0) (sym moved-length)
-      ∙ getD-append-add (moved at i l) (drop i l) 1 0
-      ∙ getD-drop i l 1 0
-
-pub shift-start : (at : ℕ) (l : List ℕ) → l ≡ shifted at at l
-unfolding shifted
-shift-start at l = simp (slice-empty, append-nil) (sym (take-append-drop at l))
-
-pub shift-again : (at i last : ℕ) (l s : List ℕ) → s ≡ shifted at i l → at ≤ i → i < last → last < length l
-    → set s i (getD s (i + 1) 0) ≡ shifted at (i + 1) l
-unfolding shifted
-shift-again at i last l s e h k g =
-    let below-end : i < length l = omega arith in
-    rw (e, shift-get at i l h below-end, shift-set at i l h below-end, add-one, slice-snoc (suc at) (suc i) l 0 (omega arith) (omega arith))
-    (simp append-assoc)
-
-pub shift-end : (at i end : ℕ) (l s : List ℕ) → s ≡ shifted at i l → at ≤ i → i ≤ end - 1 → end - 1 ≤ i → at < end
-    → leb end storeSize ≡ true → length l ≡ storeSize → set s (end - 1) 0 ≡ closedIn at end l
-unfolding closedIn
-shift-end at i end l s e h p q k t g =
-    let here : i ≡ end - 1 = omega arith in
-    let next : suc (end - 1) ≡ end = omega arith in
-    let fits = leb-true end storeSize t in
-    rw (lt-ltb at end k, t, e, ← here, shift-set at i l h (omega arith))
-    (rw (here, next) (append-assoc (take at l) (slice (suc at) end l) (0 ∷ drop end l)))

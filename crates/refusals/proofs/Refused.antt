@@ -20,7 +20,7 @@ use Rattle.rules.proofs.Bools.{given, or-left}
 use Rattle.rules.proofs.Queues.{queue-length}
 use Rattle.rules.proofs.Validity.{Parts, parts-of, sound}
 use Rattle.rules.proofs.Refusals.{first-append}
-use Rattle.queues.proofs.Places.{none-is}
+use Rattle.retrieving.proofs.Places.{none-is}
 use Rattle.refusals.specs.Late.{lacking, lateFlags}
 
 abbrev pub early : Bool → ℕ → Call → List Reason

@@ -10,7 +10,7 @@ use Rattle.rules.specs.Numbers.{queueRoom, places, WAIT, ENTER, SEND, RETRIEVE,
 use Rattle.rules.specs.Words.{isZero, byOperation, Reason, when}
 use Rattle.rules.specs.Regions.{held}
 use Rattle.rules.specs.Refusals.{missing, badOperator, stoppedAt, othersAt, wrongState, leaves, entriesFull}
-use Rattle.queues.specs.Places.{placeIn}
+use Rattle.retrieving.specs.Places.{placeIn}
 
 -- 18 by places of the store: the place found is the end of the queue
 unfoldable pub lacking : List ℕ → List ℕ → Call → Bool

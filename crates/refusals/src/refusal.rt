@@ -1,5 +1,4 @@
 // The refusals, in the order of the status table: the first that applies.
-use queues::place_of;
 use reasons::count_at;
 use reasons::early_of;
 use reasons::entry_at;
@@ -8,6 +7,7 @@ use reasons::missing_of;
 use reasons::pick;
 use reasons::state_at;
 use regions::held_by;
+use retrieving::place_of;
 use rules::Call;
 use rules::Timer;
 use timers::others_at;

@@ -5,9 +5,9 @@ use mathlib.Core.Path.{_≡_}
 use lib.Seq.{slice}
 use Rattle.rules.specs.Queues.{largest}
 use Rattle.rules.proofs.Counts.{ends}
-use Rattle.queues.proofs.Loops.{largest-again, largest-end}
-use Rattle.queues.proofs.retrieve.largest_of.Statement.{statement}
-use Rattle.queues.proofs.retrieve.largest_of.Tie as tie
+use Rattle.retrieving.proofs.Loops.{largest-again, largest-end}
+use Rattle.retrieving.proofs.largest_of.Statement.{statement}
+use Rattle.retrieving.proofs.largest_of.Tie as tie
 
 abbrev Inv-loop : tie.InvT-loop
 Inv-loop criterion from to most₀ i₀ most i = max most (largest (slice i to criterion)) ≡ largest (slice from to criterion)

@@ -5,9 +5,9 @@ use mathlib.Core.Path.{_≡_}
 use lib.Seq.{slice}
 use Rattle.rules.specs.Queues.{before}
 use Rattle.rules.proofs.Counts.{ends}
-use Rattle.queues.proofs.Loops.{oldest-again, oldest-here, oldest-end}
-use Rattle.queues.proofs.retrieve.oldest_of.Statement.{statement}
-use Rattle.queues.proofs.retrieve.oldest_of.Tie as tie
+use Rattle.retrieving.proofs.Loops.{oldest-again, oldest-here, oldest-end}
+use Rattle.retrieving.proofs.oldest_of.Statement.{statement}
+use Rattle.retrieving.proofs.oldest_of.Tie as tie
 
 abbrev Inv-loop : tie.InvT-loop
 Inv-loop criterion from to c i₀ i = (i ≤ to) × (i + before c (slice i to criterion) ≡ from + before c (slice from to criterion))

@@ -15,7 +15,7 @@ use Rattle.rules.specs.Tables.{lengthOf, queueOf, withQueue}
 use Rattle.rules.proofs.Bools.{and-left, and-right, same-test}
 use Rattle.rules.proofs.Store.{closed}
 use Rattle.rules.proofs.Queues.{Sound, withStores, queue-length, queue-criteria, element-at, criterion-at, taken-stored}
-use Rattle.queues.specs.Places.{placeIn, closedIn}
+use Rattle.retrieving.specs.Places.{placeIn, closedIn}
 
 -- a part that is there
 pub closed-is : (at end : ℕ) (l : List ℕ) → at < end → end ≤ storeSize → closedIn at end l ≡ closed at end l

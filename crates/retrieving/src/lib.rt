@@ -6,7 +6,7 @@ ghost use lib.ListN.{length};
 ghost use lib.Seq.{slice};
 ghost use Rattle.rules.specs.Numbers.{storeSize};
 ghost use Rattle.rules.specs.Queues.{largest, wanted, before};
-ghost use Rattle.queues.specs.Places.{placeIn, closedIn};
+ghost use Rattle.retrieving.specs.Places.{placeIn, closedIn};
 
 fn greater(x: u8, y: u8) -> u8
     ensures { λ r. ⌜ r ≡ max x y ⌝ }

@@ -1,11 +1,11 @@
 -- Where the part is there, the oldest of the wanted criterion is looked for; a part that is not there has its end for an answer.
 use borrow.Author.Needs.{needs}
 use mathlib.Core.Logic.{⊎-elim}
-use Rattle.queues.specs.Places.{placeIn}
+use Rattle.retrieving.specs.Places.{placeIn}
 use Rattle.rules.proofs.Counts.{tests}
-use Rattle.queues.proofs.Loops.{place-found}
-use Rattle.queues.proofs.retrieve.place_of.Statement.{statement}
-use Rattle.queues.proofs.retrieve.place_of.Tie as tie
+use Rattle.retrieving.proofs.Loops.{place-found}
+use Rattle.retrieving.proofs.place_of.Statement.{statement}
+use Rattle.retrieving.proofs.place_of.Tie as tie
 
 wanted-of-requires : tie.Need-wanted-of-requires
 wanted-of-requires c κs = search needs

@@ -1,8 +1,8 @@
 -- The test for 16 is the definition's.
 use borrow.Author.Needs.{needs}
 use Rattle.rules.proofs.Counts.{tests}
-use Rattle.queues.proofs.retrieve.wanted_of.Statement.{statement}
-use Rattle.queues.proofs.retrieve.wanted_of.Tie as tie
+use Rattle.retrieving.proofs.wanted_of.Statement.{statement}
+use Rattle.retrieving.proofs.wanted_of.Tie as tie
 
 largest-of-requires : tie.Need-largest-of-requires
 largest-of-requires c κs = search needs
