@@ -18,9 +18,9 @@ use Rattle.rules.specs.Effects.{plain, ticked, effect}
 use Rattle.rules.specs.Step.{accepted, step}
 use Rattle.rules.proofs.Election.{electedBy, election-by}
 use Rattle.rules.proofs.Refusals.{accepted-facts}
-use Rattle.timers.specs.declared.ring.Rows.{Rows}
-use Rattle.timers.specs.Signals.{rungRows, rowsOf, withRows}
-use Rattle.timers.proofs.Signals.{ticked-is}
+use Rattle.ringing.specs.declared.Rows.{Rows}
+use Rattle.ringing.specs.Signals.{rungRows, rowsOf, withRows}
+use Rattle.ringing.proofs.Signals.{ticked-is}
 use Rattle.effects.specs.Effects.{timerAfter}
 use Rattle.calls.proofs.Accepted.{timer-effect}
 use Rattle.calls.proofs.Done.{accepted-is, facts, elected-same}

@@ -1,4 +1,6 @@
 // One call: refused with the first reason that applies, or done and the elected task found afresh.
+use arming::disarmed_all;
+use clock::later_by;
 use conditions::met_by;
 use effects::region_after;
 use effects::target_of;
@@ -12,17 +14,15 @@ use regions::held_by;
 use retrieving::close_criteria;
 use retrieving::close_elements;
 use retrieving::place_of;
+use ringing::Rows;
+use ringing::rung_all;
+use ringing::rung_rows;
 use rules::Answer;
 use rules::Call;
 use rules::Done;
 use rules::Region;
 use rules::Table;
 use rules::Task;
-use timers::Rows;
-use timers::disarmed_all;
-use timers::later_by;
-use timers::rung_all;
-use timers::rung_rows;
 ghost use mathlib.Core.Path.{_≡_};
 ghost use Rattle.rules.specs.Step.{step};
 

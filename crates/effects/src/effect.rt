@@ -1,13 +1,13 @@
 // What an accepted call does to one task, one region or one timer.
+use arming::armed_timer;
+use arming::disarmed_timer;
+use clock::later_by;
 use conditions::met_by;
 use conditions::signalled_by;
 use rules::Call;
 use rules::Region;
 use rules::Task;
 use rules::Timer;
-use timers::armed_timer;
-use timers::disarmed_timer;
-use timers::later_by;
 ghost use mathlib.Core.Path.{_≡_};
 ghost use Rattle.rules.specs.Tasks.{waited, asCleared};
 ghost use Rattle.rules.specs.Regions.{countedDown};

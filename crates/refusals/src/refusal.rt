@@ -1,4 +1,5 @@
 // The refusals, in the order of the status table: the first that applies.
+use arming::others_at;
 use reasons::count_at;
 use reasons::early_of;
 use reasons::entry_at;
@@ -10,7 +11,6 @@ use regions::held_by;
 use retrieving::place_of;
 use rules::Call;
 use rules::Timer;
-use timers::others_at;
 use validity::valid_of;
 ghost use mathlib.Core.Path.{_≡_};
 ghost use mathlib.Core.Bool.{not, _&&_};

@@ -1,36 +1,20 @@
--- One timer: the machine's difference is how far its date lies ahead, and the code's tests are the rules'.
-use Prim.Native.Nat.{ℕ, _+_, _%_, _<_, _≤_}
-use mathlib.Core.Path.{_≡_, refl, ap}
+-- One timer: the code's tests are the rules'.
+use Prim.Native.Nat.{ℕ, _%_, _<_, _≤_}
+use mathlib.Core.Path.{_≡_, refl}
 use mathlib.Core.Bool.{Bool, true, false, not, _&&_, _||_, and-true, and-assoc}
 use mathlib.Core.List.{List}
 use native.Mathlib.Omega.{arith}
 use native.Mathlib.Nat.{mod-eq-of-lt}
-use lib.Dec.{ltb, eqb, leb}
+use lib.Dec.{ltb, leb}
 use lib.ListN.{getD, length, List·getD-eq-default}
-use borrow.Author.Tests.{eqb-true, eq-eqb, ltb-true, ltb-false, lt-ltb}
+use borrow.Author.Tests.{ltb-true, ltb-false, lt-ltb}
 use Rattle.rules.specs.declared.Timer.{Timer}
 use Rattle.rules.specs.Numbers.{taskRoom, eventEnd, tickEnd, longestDelay}
 use Rattle.rules.specs.Words.{isZero, all}
-use Rattle.rules.specs.Timers.{ahead, isArmed, isDue}
+use Rattle.rules.specs.Timers.{ahead, isArmed}
 use Rattle.rules.specs.Validity.{timerRight}
-use Rattle.rules.proofs.Bools.{same-test}
 use Rattle.conditions.proofs.Picked.{picked-is}
 use Rattle.timers.specs.Fits.{timerFits}
-
--- the difference that wraps
-pub ahead-is : (r date ticks : ℕ) → (r + ticks) % tickEnd ≡ date → r < tickEnd → ticks < tickEnd → r ≡ ahead date ticks
-unfolding ahead
-ahead-is r date ticks e h k = omega arith
-
--- no tick is left exactly where the counter has reached the date
-pub due-is : (ticks left : ℕ) (r : Timer) → left ≡ ahead (r .date) ticks → r .date < tickEnd → ticks < tickEnd
-    → (isArmed r && isZero left) ≡ isDue ticks r
-unfolding ahead
-due-is ticks left r e h k =
-    ap (λ b. isArmed r && b)
-    (same-test (isZero left) (eqb (r .date) ticks)
-    (λ z. eq-eqb (r .date) ticks (omega (arith, eqb-true left 0 z)))
-    (λ z. eq-eqb left 0 (omega (arith, eqb-true (r .date) ticks z))))
 
 -- the code's two flags, of which the type of the date makes one rule true
 pub fits-is : (tasks state ticks left : ℕ) (r : Timer) → left ≡ ahead (r .date) ticks → r .date < tickEnd

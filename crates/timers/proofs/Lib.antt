@@ -1,4 +1,3 @@
 -- Laws that the proofs of this crate's functions cite.
 pub mod Loops
 pub mod Fits
-pub mod Signals
