@@ -1,6 +1,8 @@
 // One call: refused with the first reason that applies, or done and the elected task found afresh.
 use arming::disarmed_all;
 use clock::later_by;
+use closing::close_criteria;
+use closing::close_elements;
 use conditions::met_by;
 use effects::region_after;
 use effects::target_of;
@@ -11,8 +13,6 @@ use reasons::pick;
 use reasons::reported_by;
 use refusals::refusal_of;
 use regions::held_by;
-use retrieving::close_criteria;
-use retrieving::close_elements;
 use retrieving::place_of;
 use ringing::Rows;
 use ringing::rung_all;

@@ -1,38 +1,19 @@
 -- What a part of the store means to a table: the place that RETRIEVE takes from is its queue's, and the gap closed is its queue without it.
-use Prim.Native.Nat.{ℕ, suc, _+_, _-_, _<_, _≤_}
-use mathlib.Core.Path.{_≡_, refl, _∙_}
-use mathlib.Core.Bool.{Bool, true, false, cond, _&&_}
-use mathlib.Core.List.{List}
+use Prim.Native.Nat.{ℕ, _+_, _-_, _<_, _≤_}
+use mathlib.Core.Path.{_≡_, _∙_}
 use native.Mathlib.Omega.{arith}
-use lib.Dec.{ltb, leb}
-use lib.ListN.{length, getD, set, length-append, length-drop}
-use lib.Seq.{length-slice, length-take-le}
-use borrow.Author.Tests.{lt-ltb, le-leb, ltb-true, leb-true}
+use lib.Dec.{leb}
+use lib.ListN.{getD, set}
+use borrow.Author.Tests.{le-leb, leb-true}
 use Rattle.rules.specs.declared.Table.{Table}
 use Rattle.rules.specs.Numbers.{queueRoom, storeSize}
 use Rattle.rules.specs.Queues.{pair, noPair, firstPlace, front, place, noneFits, without}
 use Rattle.rules.specs.Tables.{lengthOf, queueOf, withQueue}
-use Rattle.rules.proofs.Bools.{and-left, and-right, same-test}
-use Rattle.rules.proofs.Store.{closed}
+use Rattle.rules.proofs.Bools.{same-test}
 use Rattle.rules.proofs.Queues.{Sound, withStores, queue-length, queue-criteria, element-at, criterion-at, taken-stored}
-use Rattle.retrieving.specs.Places.{placeIn, closedIn}
-
--- a part that is there
-pub closed-is : (at end : ℕ) (l : List ℕ) → at < end → end ≤ storeSize → closedIn at end l ≡ closed at end l
-unfolding closedIn
-closed-is at end l h k = rw (lt-ltb at end h, le-leb end storeSize k)
-
--- the store keeps its size
-pub closed-length : (at end : ℕ) (l s : List ℕ) → s ≡ closedIn at end l → length l ≡ storeSize → length s ≡ storeSize
-unfolding closedIn
-closed-length at end l s e long = rw e (go (ltb at end && leb end storeSize) refl)
-  where
-    go : (b : Bool) → (ltb at end && leb end storeSize) ≡ b → length (cond b (closed at end l) l) ≡ storeSize
-    go false e = long
-    go true e =
-        let h = ltb-true at end (and-left (ltb at end) (leb end storeSize) e) in
-        let k = leb-true end storeSize (and-right (ltb at end) (leb end storeSize) e) in
-        simp (length-append, length-take-le at l (omega arith), length-slice (suc at) end l (omega arith), length-drop) (omega arith)
+use Rattle.closing.specs.Gaps.{closedIn}
+use Rattle.closing.proofs.Gaps.{closed-is}
+use Rattle.retrieving.specs.Places.{placeIn}
 
 leb-add : (a m n : ℕ) → leb m n ≡ leb (a + m) (a + n)
 leb-add a m n =

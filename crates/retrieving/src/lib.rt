@@ -1,4 +1,4 @@
-// RETRIEVE in the flat store: the place of the element that it takes, and the gap closed that it leaves.
+// What RETRIEVE takes: the place of its element in the flat store.
 use rules::STORE;
 ghost use Prim.Native.Nat.{_+_, _≤_, max};
 ghost use mathlib.Core.Path.{_≡_};
@@ -6,7 +6,7 @@ ghost use lib.ListN.{length};
 ghost use lib.Seq.{slice};
 ghost use Rattle.rules.specs.Numbers.{storeSize};
 ghost use Rattle.rules.specs.Queues.{largest, wanted, before};
-ghost use Rattle.retrieving.specs.Places.{placeIn, closedIn};
+ghost use Rattle.retrieving.specs.Places.{placeIn};
 
 fn greater(x: u8, y: u8) -> u8
     ensures { λ r. ⌜ r ≡ max x y ⌝ }
@@ -67,32 +67,4 @@ pub fn place_of(criterion: &[u8; STORE], from: usize, to: usize, c: u32) -> usiz
         return oldest_of(criterion, from, to, wanted);
     }
     to
-}
-
-// Closes the gap at `at`: what stands behind it up to `end` moves one down, and the last place gets 0.
-pub fn close_elements(element: &mut [u32; STORE], at: usize, end: usize)
-    requires { ⌜ length (now element) ≡ 512 ⌝ }
-    ensures { λ r. ⌜ now (element .exit) ≡ closedIn at end (now (element .entry)) ⌝ }
-{
-    if at < end && end <= STORE {
-        let last = end - 1;
-        for i in at..last {
-            element[i] = element[i + 1];
-        }
-        element[last] = 0;
-    }
-}
-
-// The same for criteria.
-pub fn close_criteria(criterion: &mut [u8; STORE], at: usize, end: usize)
-    requires { ⌜ length (now criterion) ≡ 512 ⌝ }
-    ensures { λ r. ⌜ now (criterion .exit) ≡ closedIn at end (now (criterion .entry)) ⌝ }
-{
-    if at < end && end <= STORE {
-        let last = end - 1;
-        for i in at..last {
-            criterion[i] = criterion[i + 1];
-        }
-        criterion[last] = 0;
-    }
 }

@@ -6,11 +6,11 @@ use mathlib.Core.Path.{_≡_}
 use mathlib.Core.Logic.{⊎-elim}
 use borrow.Author.Tests.{leb-true}
 use Rattle.rules.specs.Numbers.{storeSize}
-use Rattle.retrieving.specs.Places.{closedIn}
+use Rattle.closing.specs.Gaps.{closedIn}
 use Rattle.rules.proofs.Counts.{ends, tests}
-use Rattle.retrieving.proofs.Loops.{shifted, shift-start, shift-again, shift-end}
-use Rattle.retrieving.proofs.close_criteria.Statement.{statement}
-use Rattle.retrieving.proofs.close_criteria.Tie as tie
+use Rattle.closing.proofs.Shifts.{shifted, shift-start, shift-again, shift-end}
+use Rattle.closing.proofs.close_criteria.Statement.{statement}
+use Rattle.closing.proofs.close_criteria.Tie as tie
 
 abbrev Inv-loop : tie.InvT-loop
 Inv-loop criterion₀ at end last i₀ criterion i = (at ≤ i) × (i ≤ last) × (last < storeSize) × (criterion ≡ shifted at i criterion₀)
