@@ -15,4 +15,3 @@ pub mod Running
 pub mod Balanced
 pub mod Lasting
 pub mod Delays
-pub mod Examples

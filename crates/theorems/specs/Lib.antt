@@ -6,4 +6,3 @@ pub mod Running
 pub mod Balanced
 pub mod Lasting
 pub mod Delays
-pub mod Examples
