@@ -13,8 +13,8 @@ use Rattle.rules.specs.Tables.{timerOf}
 use Rattle.rules.specs.Validity.{valid}
 use Rattle.rules.specs.Refusals.{refusal}
 use Rattle.rules.specs.Step.{step}
 use Rattle.theorems.specs.Kept.{afterAll}
-use Rattle.theorems.specs.Lasting.{arrivedAt, Remembered}
+use Rattle.lasting_theorems.specs.Lasting.{arrivedAt, Remembered}
 
 -- a TICK from the outside
 abbrev pub isTick : Call → Bool

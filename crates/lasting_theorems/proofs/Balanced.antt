@@ -27,10 +27,10 @@ use Rattle.rules.proofs.Entries.{entries-most, entries-some, enteredBy, freeReg
 use Rattle.rules.proofs.Effects.{each-effect, ringing-same}
 use Rattle.rules.proofs.Refusals.{Accepted, accepted-facts}
 use Rattle.rules.proofs.Validity.{regionFits, Parts, parts-of, region-fits, entries-fit, held-fits, counts-fit}
 use Rattle.theorems.specs.Kept.{afterAll}
-use Rattle.theorems.specs.Balanced.{enters, exits, balanced, NestedBalanced, Protected, StillHeld, NothingLeft, FreedAtMatch}
+use Rattle.lasting_theorems.specs.Balanced.{enters, exits, balanced, NestedBalanced, Protected, StillHeld, NothingLeft, FreedAtMatch}
 use Rattle.theorems.proofs.Regions.{holder-elected}
 use Rattle.theorems.proofs.Kept.{caller-of, numbered, valid-kept, refused-same}
 
 -- ---- a task that holds a region
 

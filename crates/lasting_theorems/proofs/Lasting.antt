@@ -27,11 +27,11 @@ use Rattle.rules.proofs.Columns.{changed-same, task-other, changed-holds}
 use Rattle.rules.proofs.Validity.{Parts, parts-of, row-right, waits-unmet}
 use Rattle.rules.proofs.Refusals.{Accepted, accepted-facts}
 use Rattle.rules.proofs.Effects.{each-effect}
 use Rattle.theorems.specs.Kept.{afterAll}
-use Rattle.theorems.specs.Lasting.{arrivedAt, forgets, SignalArrives, EventStays, Remembered, NoSignalLost, NoneLeftWaiting}
+use Rattle.lasting_theorems.specs.Lasting.{arrivedAt, forgets, SignalArrives, EventStays, Remembered, NoSignalLost, NoneLeftWaiting}
 use Rattle.theorems.proofs.Rows.{below-room}
 use Rattle.theorems.proofs.Timers.{ring, ring-shaped}
 use Rattle.theorems.proofs.Kept.{caller-of, numbered, there, caller-below, valid-after}
 
 -- ---- one task
 

@@ -30,14 +30,14 @@ use Rattle.rules.proofs.Clock.{disarm-others, ahead-later, ahead-next, timer-gi
 use Rattle.rules.proofs.Validity.{Parts, parts-of}
 use Rattle.rules.proofs.Refusals.{Accepted, accepted-facts}
 use Rattle.rules.proofs.Effects.{each-effect}
 use Rattle.theorems.specs.Kept.{afterAll}
-use Rattle.theorems.specs.Lasting.{arrivedAt}
-use Rattle.theorems.specs.Delays.{isTick, dueNext, DueRings, NoRingLost, OthersStay, OnlyDueRings, disturbs, LeftAlone, ticksIn, DelayKept}
+use Rattle.lasting_theorems.specs.Lasting.{arrivedAt}
+use Rattle.lasting_theorems.specs.Delays.{isTick, dueNext, DueRings, NoRingLost, OthersStay, OnlyDueRings, disturbs, LeftAlone, ticksIn, DelayKept}
 use Rattle.theorems.proofs.Rows.{below-room}
 use Rattle.theorems.proofs.Timers.{timers-long, ring, ring-shaped}
 use Rattle.theorems.proofs.Kept.{numbered, there, valid-kept}
 use Rattle.theorems.proofs.Split.{tick-done}
-use Rattle.theorems.proofs.Lasting.{ringing-has, stays-through}
+use Rattle.lasting_theorems.proofs.Lasting.{ringing-has, stays-through}
 
 -- ---- one tick
 
