@@ -3,7 +3,7 @@ use bench_line::malformed_line;
 use bench_line::one_line;
 use bench_line::too_long;
 use lines::Line;
-use lines::line_from;
+use log_lines::line_from;
 use opening::Standing;
 use rules::Done;
 ghost use mathlib.Core.Path.{_≡_};

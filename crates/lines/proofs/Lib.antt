@@ -1,4 +1,3 @@
 -- Laws for this crate's proofs and for its callers'.
 pub mod Search
 pub mod Places
-pub mod Lent

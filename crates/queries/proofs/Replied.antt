@@ -20,7 +20,7 @@ use Rattle.rules.proofs.Bools.{or-right}
 use Rattle.rules.proofs.Queues.{queue-length}
 use Rattle.rules.proofs.Validity.{parts-of, counts-fit, sound}
 use Rattle.rules.proofs.Refusals.{first-none}
-use Rattle.queries.specs.Replies.{replyBy}
+use Rattle.replies.specs.Replies.{replyBy}
 
 -- two values answer alike where they agree if nothing is refused
 reply-same : (s v w who : ℕ) → (s ≡ 0 → v ≡ w) → replyBy s v who ≡ replyBy s w who

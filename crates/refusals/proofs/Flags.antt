@@ -15,7 +15,7 @@ use Rattle.rules.specs.Numbers.{WAIT, ENTER, SEND, RETRIEVE, ARM, DISARM, TICK}
 use Rattle.rules.specs.Words.{first}
 use Rattle.rules.specs.Refusals.{othersAt, wrongState, leaves, missing}
 use Rattle.rules.proofs.Effects.{upto}
-use Rattle.reasons.proofs.Tests.{none-of}
+use Rattle.call_numbers.proofs.Tests.{none-of}
 use Rattle.refusals.specs.Late.{lacking, wrongTask, taskFlags, queueFlags, timerFlags, lateFlags}
 
 -- 15 of the calls about tasks: by the states of the tasks that a and b name

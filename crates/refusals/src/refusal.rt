@@ -1,12 +1,12 @@
 // The refusals, in the order of the status table: the first that applies.
 use arming::others_at;
-use reasons::count_at;
+use call_numbers::leaves_of;
+use call_numbers::missing_of;
+use lookups::count_at;
+use lookups::entry_at;
+use lookups::state_at;
 use reasons::early_of;
-use reasons::entry_at;
-use reasons::leaves_of;
-use reasons::missing_of;
 use reasons::pick;
-use reasons::state_at;
 use regions::held_by;
 use retrieving::place_of;
 use rules::Call;

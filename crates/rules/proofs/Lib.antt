@@ -16,4 +16,5 @@ pub mod Effects
 pub mod Columns
 pub mod Entries
 pub mod Clock
+pub mod Quick
 pub mod Rows

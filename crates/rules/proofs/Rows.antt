@@ -23,6 +23,7 @@ use Rattle.rules.specs.Refusals.{missing, wrongState, leaves, reasons, r
 use Rattle.rules.specs.Timers.{later, ahead}
 use Rattle.rules.specs.Effects.{ringing, ticked, effect}
 use Rattle.rules.specs.Step.{step}
+use Rattle.rules.proofs.Quick.{zeroBehind, quickValid, quickStep, computed}
 
 -- a call, and the answer that document 01 gives for it
 pub record Said : Type 0 where
@@ -65,22 +66,26 @@ sameAnswer x y =
 sameEvents : Table → Events → Bool
 sameEvents t e = eqb (taskOf t (e .task) .arrived) (e .arrived)
 
-rightFrom : Table → List Said → List Events → Bool
-rightFrom t [] shows = every (sameEvents t) shows
-rightFrom t (s ∷ ss) shows =
-    let d = step t (s .call) in
-    sameAnswer (d .answer) (s .answer) && rightFrom (d .table) ss shows
+-- what a call does to a table
+abbrev Does : Type 0
+Does = Table → Call → Done
+
+rightFrom : Does → Table → List Said → List Events → Bool
+rightFrom does t [] shows = every (sameEvents t) shows
+rightFrom does t (s ∷ ss) shows =
+    let d = does t (s .call) in
+    sameAnswer (d .answer) (s .answer) && rightFrom does (d .table) ss shows
 
 -- "Each starts fresh: priorities 5, 5, 2, two regions, one queue of bound 2."
 begun : Done
 begun = fresh 3 2 1 (5 ∷ 5 ∷ 2 ∷ []) (2 ∷ [])
 
-right : Run → Bool
-right r = rightFrom (begun .table) (r .says) (r .shows)
+right : Does → Run → Bool
+right does r = rightFrom does (begun .table) (r .says) (r .shows)
 
 -- each run of each row gives what is said of it, and the fresh table is accepted
-pub rowsRight : List (List Run) → Bool
-rowsRight rows = sameAnswer (begun .answer) (record { status = 0; value = 0; key = 0; elected = 0 }) && every (every right) rows
+pub rowsRight : List (List Run) → Does → Bool
+rowsRight rows does = sameAnswer (begun .answer) (record { status = 0; value = 0; key = 0; elected = 0 }) && every (every (right does)) rows
 
 -- "P1: task 0 STARTs 2: elected 2. STARTing 1 instead: elected 0."
 abbrev P1 : List Run
@@ -162,13 +167,13 @@ rows = P1 ∷ P2 ∷ P3 ∷ P4 ∷ P5 ∷ PO1 ∷ PO2 ∷ PO3 ∷ PO4 ∷ PO5 �
 
 -- to unfold this is to unfold all that the rules compute with
 computing : Unit {0}
-unfolding rowsRight right begun rightFrom sameAnswer sameEvents all every below padded met arrive cleared woken signalled waited held pairs front behind laid largest before place without smallest lowest isBest bestReady election queueOf shaped countsInRange prioritiesInRange boundsInRange listsInRange operatorsInRange holdersInRange criteriaInRange zeroPast zeroPastCounts zeroPastLengths restRight statesRight entriesRight oneHolder holderReady holderElected lengthsRight electedRight timerRight timersRight valid later ahead ringing ticked configurationInRange freshTable fresh missing wrongState leaves reasons refusal effect step
+unfolding rowsRight right begun rightFrom sameAnswer sameEvents all every below padded met arrive cleared woken signalled waited held pairs front behind laid largest before place without smallest lowest isBest bestReady election queueOf shaped countsInRange prioritiesInRange boundsInRange listsInRange operatorsInRange holdersInRange criteriaInRange zeroPast zeroPastCounts zeroPastLengths restRight statesRight entriesRight oneHolder holderReady holderElected lengthsRight electedRight timerRight timersRight valid later ahead ringing ticked configurationInRange freshTable fresh missing wrongState leaves reasons effect zeroBehind quickValid quickStep
 computing = tt
 
 -- the one claim: antt computes every run of every row
-pub tenRows : rowsRight rows ≡ true
+pub tenRows : rowsRight rows step ≡ true
 unfolding computing
-tenRows = refl
+tenRows = computed (rowsRight rows) refl
 
 -- ---- T-01, sentence by sentence, from the same fresh table
 
@@ -217,9 +222,9 @@ disarms =
     ∷ [])
     ∷ []
 
-pub timerRows : rowsRight (onlyOutside ∷ inRange ∷ dueThen ∷ disarms ∷ []) ≡ true
+pub timerRows : rowsRight (onlyOutside ∷ inRange ∷ dueThen ∷ disarms ∷ []) step ≡ true
 unfolding computing
-timerRows = refl
+timerRows = computed (rowsRight (onlyOutside ∷ inRange ∷ dueThen ∷ disarms ∷ [])) refl
 
 -- ---- T-04, sentence by sentence
 
@@ -239,9 +244,9 @@ matching =
     ∷ [])
     ∷ []
 
-pub entryRows : rowsRight (matching ∷ []) ≡ true
+pub entryRows : rowsRight (matching ∷ []) step ≡ true
 unfolding computing
-entryRows = refl
+entryRows = computed (rowsRight (matching ∷ [])) refl
 
 -- calls from the fresh table on where this is said of region 0
 pub record Given : Type 0 where
@@ -251,8 +256,8 @@ pub record Given : Type 0 where
 abbrev given : ℕ → ℕ → List Said → Given
 given holder entries calls = record { region = record { holder = holder; entries = entries }; says = calls }
 
-pub rightGiven : Given → Bool
-rightGiven g = rightFrom (withRegion 0 (g .region) (begun .table)) (g .says) []
+pub rightGiven : Does → Given → Bool
+rightGiven does g = rightFrom does (withRegion 0 (g .region) (begun .table)) (g .says) []
 
 -- "1 to 255": the 255th ENTER is accepted; "the 256th ENTER gets 22", that of another region doesn't, and EXIT makes room again
 abbrev lastEntries : Given
@@ -264,6 +269,6 @@ lastEntries =
 abbrev wrongEntries : List Given
 wrongEntries = given 0 1 (says 0 ENTER 0 0 0 10 nobody ∷ []) ∷ given 1 0 (says 0 ENTER 0 0 0 10 nobody ∷ []) ∷ []
 
-pub entryEnds : every rightGiven (lastEntries ∷ wrongEntries) ≡ true
+pub entryEnds : every (rightGiven step) (lastEntries ∷ wrongEntries) ≡ true
 unfolding computing rightGiven
-entryEnds = refl
+entryEnds = computed (λ does. every (rightGiven does) (lastEntries ∷ wrongEntries)) refl

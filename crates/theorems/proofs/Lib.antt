@@ -12,7 +12,3 @@ pub mod Order
 pub mod Damaged
 pub mod Refused
 pub mod Running
-pub mod Balanced
-pub mod Lasting
-pub mod Delays
-pub mod Examples

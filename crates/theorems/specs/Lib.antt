@@ -3,7 +3,3 @@ pub mod Kept
 pub mod Happenings
 pub mod Refused
 pub mod Running
-pub mod Balanced
-pub mod Lasting
-pub mod Delays
-pub mod Examples

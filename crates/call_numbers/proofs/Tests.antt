@@ -1,0 +1,44 @@
+-- Tests by operation: the code's flags, and the definitions' lists with an entry for each operation.
+use Prim.Native.Nat.{ℕ, zero, suc, _<_, _≤_}
+use mathlib.Core.Path.{_≡_, refl}
+use mathlib.Core.Logic.{_≢_}
+use mathlib.Core.Bool.{Bool, true, false, _&&_, _||_, or-false}
+use mathlib.Core.List.{[], _∷_}
+use native.Mathlib.Omega.{arith}
+use lib.Dec.{eqb}
+use lib.ListN.{List·getD-eq-default}
+use borrow.Author.Tests.{ne-eqb}
+use Rattle.rules.specs.declared.Call.{Call}
+use Rattle.rules.specs.Words.{byOperation}
+use Rattle.rules.specs.Refusals.{missing}
+
+-- a number past the named ones is none of them
+pub none-of : (n k : ℕ) → k < n → eqb n k ≡ false
+none-of n k h = ne-eqb n k (omega arith)
+
+-- 16: STOP of oneself, END, WAIT
+pub leaves-is : (n : ℕ) (a : Bool)
+    → ((eqb n 1 && a) || (eqb n 2 || eqb n 4)) ≡ byOperation false n (false ∷ a ∷ true ∷ false ∷ true ∷ [])
+leaves-is zero a = refl
+leaves-is (suc zero) a = or-false a
+leaves-is (suc (suc zero)) a = refl
+leaves-is (suc (suc (suc zero))) a = refl
+leaves-is (suc (suc (suc (suc zero)))) a = refl
+leaves-is (suc (suc (suc (suc (suc n))))) a =
+    let m = suc (suc (suc (suc (suc n)))) in
+    rw (none-of m 1 (omega arith), none-of m 2 (omega arith), none-of m 4 (omega arith)) refl
+
+-- 14 does not apply to a number that is no operation
+pub missing-past : (tasks regions queues : ℕ) (c : Call) → 13 ≤ c .operation → false ≡ missing tasks regions queues c
+unfolding missing
+missing-past tasks regions queues c h = rw List·getD-eq-default
+
+-- ---- a match that names the first n numbers has left them all out
+
+abbrev pub Not : ℕ → ℕ → Type 0
+Not zero k = Unit {0}
+Not (suc n) k = Not n k × (k ≡ n → ⊥)
+
+pub none-below : (n k : ℕ) → Not n k → n ≤ k
+none-below zero k h = omega arith
+none-below (suc n) k h = let l = none-below n k (h .0) in let other : k ≢ n = h .1 in omega arith

@@ -1,0 +1,4 @@
+-- The proofs of what `specs/` states.
+pub mod Balanced
+pub mod Lasting
+pub mod Delays

@@ -1,0 +1,4 @@
+-- What is shown of what lasts, as statements that can be read without their proofs: a region through a routine, a signal until it is taken, a delay until its last tick.
+pub mod Balanced
+pub mod Lasting
+pub mod Delays

@@ -1,0 +1,2 @@
+-- A law that the proofs of this crate's functions cite.
+mod Past

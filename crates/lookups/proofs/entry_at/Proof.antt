@@ -1,0 +1,18 @@
+-- Past the array the definition gives 0 too.
+use borrow.Author.Needs.{needs}
+use Rattle.rules.proofs.Counts.{ends}
+use Rattle.lookups.proofs.Past.{past-end}
+use Rattle.lookups.proofs.entry_at.Statement.{statement}
+use Rattle.lookups.proofs.entry_at.Tie as tie
+
+element-copy-out-result : tie.Need-element-copy-out-result
+element-copy-out-result c = search needs
+
+returns : tie.Need-returns
+returns c = search needs
+
+returns-2 : tie.Need-returns-2
+returns-2 c = past-end (c .before .args .counts .now) (c .before .args .q) (search ends)
+
+pub entry-at-spec : {M : Type 1} → statement M
+entry-at-spec = tie.close (tie.spec element-copy-out-result returns returns-2)
