@@ -1,11 +1,13 @@
-//! Links the proved executive, if it is asked for: TANKWESHO_LIBRARY is the folder of its static library.
+//! Links the proved executive, if it is asked for: TANKWESHO_LIBRARY is the folder of its static libraries.
 
 fn main() {
     println!("cargo:rerun-if-env-changed=TANKWESHO_LIBRARY");
     if std::env::var_os("CARGO_FEATURE_PROVED").is_some() {
-        let folder = std::env::var("TANKWESHO_LIBRARY").expect("TANKWESHO_LIBRARY names the folder of libblock.a");
-        println!("cargo:rerun-if-changed={folder}/libblock.a");
+        let folder = std::env::var("TANKWESHO_LIBRARY").expect("TANKWESHO_LIBRARY names the folder of libblock.a and libreplay.a");
         println!("cargo:rustc-link-search=native={folder}");
-        println!("cargo:rustc-link-lib=static=block");
+        for library in ["block", "replay"] {
+            println!("cargo:rerun-if-changed={folder}/lib{library}.a");
+            println!("cargo:rustc-link-lib=static={library}");
+        }
     }
 }

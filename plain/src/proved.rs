@@ -16,6 +16,15 @@ extern "C" {
         bounds_length: usize,
     ) -> u64;
     fn tankwesho_call(block: *mut u8, block_length: usize, caller: u8, operation: u8, a: u32, b: u32, c: u32) -> u64;
+    fn tankwesho_replay(
+        block: *mut u8,
+        block_length: usize,
+        log: *const u32,
+        log_length: usize,
+        answers: *mut u64,
+        answers_length: usize,
+        each: u8,
+    ) -> u64;
     fn tankwesho_query(block: *const u8, block_length: usize, query: u8, caller: u8, a: u32, b: u32) -> u64;
 }
 
@@ -58,4 +67,29 @@ pub fn call(block: &mut [u8], call: &Call) -> u64 {
 pub fn query(block: &[u8], query: u8, caller: u8, a: u32, b: u32) -> u64 {
     // SAFETY: the block is lent for the query, with its length.
     unsafe { tankwesho_query(block.as_ptr(), block.len(), query, caller, a, b) }
+}
+
+/// The calls of a log one after the other, five numbers each, with an answer each; tells how many were made. With `each` the table is
+/// checked before every call, else once.
+pub fn replay(block: &mut [u8], log: &[u32], answers: &mut [u64], each: bool) -> u64 {
+    // SAFETY: the three slices are lent for the call, each with its length.
+    unsafe {
+        tankwesho_replay(
+            block.as_mut_ptr(),
+            block.len(),
+            log.as_ptr(),
+            log.len(),
+            answers.as_mut_ptr(),
+            answers.len(),
+            each.into(),
+        )
+    }
+}
+
+/// A log as the replay takes it.
+pub fn numbers(calls: &[Call]) -> Vec<u32> {
+    calls
+        .iter()
+        .flat_map(|call| [call.caller.into(), call.operation.into(), call.a, call.b, call.c])
+        .collect()
 }

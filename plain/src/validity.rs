@@ -34,9 +34,7 @@ impl Table {
     fn region_is_valid(&self, region: &Region) -> bool {
         match region.holder {
             None => region.entries == 0,
-            Some(holder) => {
-                region.entries > 0 && self.elected == Some(holder) && self.state_of(holder) == Some(State::READY)
-            }
+            Some(holder) => region.entries > 0 && self.elected == Some(holder) && self.state_of(holder) == Some(State::READY),
         }
     }
 

@@ -1,14 +1,16 @@
--- Laws of one line: the tests that the code makes, and what the line then does.
+-- Laws of one line: the tests that the code makes, what the line asks for, and what that does.
 use Prim.Native.Nat.{ℕ, _<_}
-use mathlib.Core.Path.{_≡_, sym, ap, _∙_}
-use mathlib.Core.Bool.{Bool, true, false, not, and-false}
+use mathlib.Core.Path.{_≡_, refl, sym, ap, _∙_}
+use mathlib.Core.Bool.{Bool, true, false, not, and-false, _&&_}
 use mathlib.Core.List.{List}
+use lib.Dec.{eqb}
 use lib.ListN.{length}
-use borrow.Author.Tests.{ne-eqb, lt-leb}
+use borrow.Author.Tests.{ne-eqb, lt-leb, eqb-true}
 use Rattle.rules.specs.declared.Table.{Table}
 use Rattle.rules.specs.declared.Call.{Call}
-use Rattle.rules.specs.declared.Done.{Done}
+use Rattle.rules.specs.Numbers.{storeSize}
 use Rattle.rules.specs.Words.{every}
+use Rattle.rules.specs.Validity.{valid}
 use Rattle.rules.specs.Step.{step}
 use Rattle.digits.specs.Digits.{isDigit}
 use Rattle.lines.specs.Ends.{longest}
@@ -16,43 +18,56 @@ use Rattle.frames.specs.Calls.{callLength, callIn}
 use Rattle.opening.specs.First.{plain, firstReasons, firstRefused, firstLine}
 use Rattle.opening.proofs.Plain.{not-true, not-false}
 use Rattle.opening.specs.declared.Standing.{Standing}
-use Rattle.bench_line.specs.Steps.{malformed, callLine, tooLong, lineDone}
+use Rattle.theorems.proofs.Kept.{valid-same, store-kept}
+use Rattle.bench_line.specs.declared.Heard.{Heard}
+use Rattle.bench_line.specs.Steps.{malformed, callLine, tooLong, lineDone, asking, nothingHeard, heard, heardDone}
 
--- ---- a call line
+-- ---- what a line asks for
 
-module _ (t : Table) (line : List ℕ) (d : Done) where
-  pub call-of-other-length : d ≡ malformed t → (length line ≡ callLength → ⊥) → d ≡ callLine t line
-  unfolding callLine
-  call-of-other-length e n = simp (ne-eqb (length line) callLength n, and-false) e
+module _ (line : List ℕ) (h : Heard) where
+  pub heard-of-other-length : h ≡ nothingHeard → (length line ≡ callLength → ⊥) → h ≡ heard line
+  unfolding heard
+  heard-of-other-length e n = simp (ne-eqb (length line) callLength n, and-false) e
 
   module _ (ok : Bool) (e : ok ≡ every isDigit line) where
-    pub call-of-other-characters : not ok ≡ true → d ≡ malformed t → d ≡ callLine t line
-    unfolding callLine plain
-    call-of-other-characters n k = simp (← e, not-true ok n, and-false) k
+    pub heard-of-other-characters : not ok ≡ true → h ≡ nothingHeard → h ≡ heard line
+    unfolding heard plain
+    heard-of-other-characters n k = simp (← e, not-true ok n, and-false) k
 
-    pub call-of-digits : (c : Call) → not ok ≡ false → length line ≡ callLength → c ≡ callIn line → d ≡ step t c → d ≡ callLine t line
-    unfolding callLine plain
-    call-of-digits c n l f k = simp (l, ← e, not-false ok n) (k ∙ ap (step t) f)
+    pub heard-of-digits : (c : Call) → not ok ≡ false → length line ≡ callLength → c ≡ callIn line → h ≡ asking c → h ≡ heard line
+    unfolding heard plain
+    heard-of-digits c n l f k = simp (l, ← e, not-false ok n) (k ∙ ap asking f)
 
--- ---- any line
+-- ---- what that does
 
-module _ (s : Standing) (line : List ℕ) (d : Done) where
-  pub later-done : s .begun ≡ true → d ≡ callLine (s .table) line → d ≡ lineDone s line
-  unfolding lineDone
-  later-done b e = rw b e
+-- a later line does what it asks for
+pub later-done : (t : Table) (line : List ℕ) → heardDone t (heard line) ≡ callLine t line
+unfolding heardDone heard callLine
+later-done t line = go (plain line && eqb (length line) callLength) refl
+  where
+    go : (b : Bool) → (plain line && eqb (length line) callLength) ≡ b → heardDone t (heard line) ≡ callLine t line
+    go true e = rw e refl
+    go false e = rw e refl
 
-  pub first-done : s .begun ≡ false → d ≡ firstLine line → d ≡ lineDone s line
-  unfolding lineDone
-  first-done b e = rw b e
+-- and leaves a valid table valid, any other as it was
+pub heard-valid : (t : Table) (h : Heard) → valid (heardDone t h .table) ≡ valid t
+unfolding heardDone malformed
+heard-valid t h = go (h .good) refl
+  where
+    go : (b : Bool) → h .good ≡ b → valid (heardDone t h .table) ≡ valid t
+    go true e = rw e (valid-same t (h .call))
+    go false e = rw e refl
 
-module _ (s : Standing) (d : Done) where
-  pub first-too-long : not (s .begun) ≡ true → d ≡ firstRefused 21 → d ≡ tooLong s
-  unfolding tooLong
-  first-too-long b e = rw (not-true (s .begun) b) e
-
-  pub later-too-long : not (s .begun) ≡ false → d ≡ malformed (s .table) → d ≡ tooLong s
-  unfolding tooLong
-  later-too-long b e = rw (not-false (s .begun) b) e
+-- and its store keeps its size
+pub heard-long : (t : Table) (h : Heard) → (length (t .element) ≡ storeSize) × (length (t .criterion) ≡ storeSize)
+    → (length (heardDone t h .table .element) ≡ storeSize) × (length (heardDone t h .table .criterion) ≡ storeSize)
+unfolding heardDone malformed
+heard-long t h l = go (h .good) refl
+  where
+    go : (b : Bool) → h .good ≡ b
+        → (length (heardDone t h .table .element) ≡ storeSize) × (length (heardDone t h .table .criterion) ≡ storeSize)
+    go true e = rw e (store-kept t (h .call) l)
+    go false e = rw e l
 
 -- lines that are too long are all alike
 pub too-long-done : (s : Standing) (line : List ℕ) → longest < length line → tooLong s ≡ lineDone s line

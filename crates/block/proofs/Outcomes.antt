@@ -1,31 +1,41 @@
 -- What comes of a call or a query on a block: refused before the table is looked at, refused by the rules, or done.
 use Prim.Native.Nat.{ℕ, _<_, _≤_}
-use mathlib.Core.Path.{_≡_, refl, sym, ap, _∙_}
-use mathlib.Core.Bool.{Bool, true, false, cond, and-false}
+use mathlib.Core.Path.{_≡_, refl, sym, ap, ap₂, subst, _∙_}
+use mathlib.Core.Bool.{Bool, true, false, cond, and-false, _||_}
 use mathlib.Core.List.{List, [], _∷_}
 use native.Mathlib.Omega.{arith}
 use lib.Dec.{eqb}
 use lib.ListN.{getD, length, List·getD-eq-default}
-use borrow.Author.Tests.{eqb-true, eq-eqb, ne-eqb}
+use borrow.Author.Tests.{eqb-true, eqb-false, eq-eqb, ne-eqb}
 use Rattle.rules.specs.declared.Table.{Table}
 use Rattle.rules.specs.declared.Call.{Call}
 use Rattle.rules.specs.declared.Answer.{Answer}
 use Rattle.rules.specs.declared.Done.{Done}
+use Rattle.rules.specs.Numbers.{storeSize, SEND, RETRIEVE}
 use Rattle.rules.specs.Words.{isZero, all, every}
 use Rattle.rules.specs.Events.{met}
 use Rattle.rules.specs.Tables.{taskOf}
-use Rattle.rules.specs.Validity.{valid}
+use Rattle.rules.specs.Validity.{shaped, valid}
 use Rattle.rules.specs.Answers.{replied, refused}
 use Rattle.rules.specs.Refusals.{reasons, arrivedReasons, objectReasons, refusal}
 use Rattle.rules.specs.Effects.{Effect, effect}
 use Rattle.rules.specs.Queries.{arrivedQuery, emptyQuery, fullQuery, priorityQuery, stateQuery}
 use Rattle.rules.specs.Fresh.{fresh}
 use Rattle.rules.specs.Step.{step}
-use Rattle.rules.proofs.Effects.{each-effect}
+use Rattle.rules.proofs.Bools.{given}
+use Rattle.rules.proofs.Validity.{parts-of}
+use Rattle.rules.proofs.Refusals.{accepted-facts}
+use Rattle.rules.proofs.Effects.{each-effect, contents-kept}
+use Rattle.theorems.proofs.Kept.{valid-kept, refused-same}
+use Rattle.calls.specs.declared.Front.{Front}
+use Rattle.calls.specs.declared.FrontDone.{FrontDone}
+use Rattle.calls.specs.Fronts.{whole, frontOf, frontDone}
 use Rattle.packing.proofs.RoundTrips.{isByte}
-use Rattle.block.specs.Layout.{blockSize, unpacked, packed, unusedZero, isTable}
+use Rattle.layout.specs.Layout.{blockSize, unpacked, packed, unusedZero, isTable}
 use Rattle.block.specs.Calls.{answerNumber, notATable, untouched, Stored, freshBlock, callBlock, query, queryOrTen, queryBlock}
-use Rattle.block.proofs.Back.{bytes-back}
+use Rattle.layout.specs.Groups.{wholePut, frontPacked}
+use Rattle.layout.proofs.Parts.{Sized, whole-put}
+use Rattle.layout.proofs.Back.{bytes-back, front-back, unpacked-sized}
 
 -- the number that stands for 10
 pub ten-is : 65290 ≡ answerNumber notATable
@@ -60,7 +70,51 @@ step-left t c h = go (isZero (refusal t c)) refl
     go true z = let low = effect-low t c in absurd (omega (arith, rw z at h))
     go false z = rw z
 
+-- only SEND and RETRIEVE change the store
+step-contents : (t : Table) (c : Call) → (eqb (c .operation) SEND || eqb (c .operation) RETRIEVE) ≡ false
+    → (step t c .table .element ≡ t .element) × (step t c .table .criterion ≡ t .criterion)
+unfolding step
+step-contents t c h = go (isZero (refusal t c)) refl
+  where
+    go : (b : Bool) → isZero (refusal t c) ≡ b → (step t c .table .element ≡ t .element) × (step t c .table .criterion ≡ t .criterion)
+    go true z = rw z (let same = contents-kept t c h in (ap (λ x. x .element) same, ap (λ x. x .criterion) same))
+    go false z = rw z (refl, refl)
+
+-- the arrays of a valid table have their lengths
+valid-sized : (t : Table) → valid t ≡ true → Sized t
+unfolding shaped
+valid-sized t v =
+    let e = given _ (parts-of t v .shape) in
+    record {
+      priority-long = eqb-true _ _ (e .0);
+      state-long = eqb-true _ _ (e .1 .0);
+      arrived-long = eqb-true _ _ (e .1 .1 .0);
+      list-long = eqb-true _ _ (e .1 .1 .1 .0);
+      operator-long = eqb-true _ _ (e .1 .1 .1 .1 .0);
+      holder-long = eqb-true _ _ (e .1 .1 .1 .1 .1 .0);
+      entries-long = eqb-true _ _ (e .1 .1 .1 .1 .1 .1 .0);
+      bound-long = eqb-true _ _ (e .1 .1 .1 .1 .1 .1 .1 .0);
+      length-long = eqb-true _ _ (e .1 .1 .1 .1 .1 .1 .1 .1 .0);
+      element-long = eqb-true _ _ (e .1 .1 .1 .1 .1 .1 .1 .1 .1 .0);
+      criterion-long = eqb-true _ _ (e .1 .1 .1 .1 .1 .1 .1 .1 .1 .1 .0);
+      timers-long = eqb-true _ _ (e .1 .1 .1 .1 .1 .1 .1 .1 .1 .1 .1 .0);
+    }
+
 -- ---- blocks
+
+-- a call keeps the lengths of the arrays: after an accepted one the table is valid, after a refused one it is what it was
+pub step-sized : (t : Table) (c : Call) → Sized t → Sized (step t c .table)
+step-sized t c s = go (isZero (refusal t c)) refl
+  where
+    go : (b : Bool) → isZero (refusal t c) ≡ b → Sized (step t c .table)
+    go true z = valid-sized (step t c .table) (valid-kept t c (accepted-facts t c (eqb-true _ 0 z) .is-valid))
+    go false z = subst Sized (sym (refused-same t c (eqb-false _ 0 z))) s
+
+pub stored-long : (block : List ℕ) (k : Call) (t : Table) → t ≡ unpacked block → (es cs : List ℕ) → es ≡ step t k .table .element → cs ≡ step t k .table .criterion
+    → (length es ≡ storeSize) × (length cs ≡ storeSize)
+stored-long block k t is es cs p q =
+    let s = step-sized (unpacked block) k (unpacked-sized block) in
+    rw (p, q, is) (s .element-long, s .criterion-long)
 
 module _ (block : List ℕ) where
   small-block : (length block ≡ blockSize → ⊥) → isTable block ≡ false
@@ -111,29 +165,58 @@ module _ (block : List ℕ) (k : Call) where
   pub call-used : length block ≡ blockSize → unusedZero block ≡ false → Comes 65290 block
   call-used size u = call-untouched (used-block block size u)
 
-  module _ (size : length block ≡ blockSize) (u : unusedZero block ≡ true) (d : Done) (e : d ≡ step (unpacked block) k) (n : ℕ) (a : n ≡ answerNumber (d .answer)) where
+  -- the call on the parts of the table, and its answer's number
+  module _ (size : length block ≡ blockSize) (u : unusedZero block ≡ true) (t : Table) (is : t ≡ unpacked block)
+      (d : FrontDone) (e : d ≡ frontDone (step t k)) (n : ℕ) (a : n ≡ answerNumber (d .answer)) where
+    same-answer : d .answer ≡ step (unpacked block) k .answer
+    same-answer = ap (λ x. x .answer) e ∙ ap (λ x. step x k .answer) is
+
     answered : n ≡ answerNumber (step (unpacked block) k .answer)
-    answered = a ∙ ap (λ x. answerNumber (x .answer)) e
+    answered = a ∙ ap answerNumber same-answer
+
+    accepted : d .answer .status < 10 → valid (unpacked block) ≡ true
+    accepted low = go (valid (unpacked block)) refl
+      where
+        go : (b : Bool) → valid (unpacked block) ≡ b → valid (unpacked block) ≡ true
+        go true v = v
+        go false v =
+            let ten : d .answer .status ≡ 10 = ap (λ x. x .status) same-answer ∙ ap (λ x. x .answer .status) (step-damaged (unpacked block) k v) in
+            absurd (omega arith)
 
     damaged : valid (unpacked block) ≡ false → Comes n block
     unfolding callBlock
     damaged v =
         rw (looked-at block size u, v) (answered ∙ ap (λ x. answerNumber (x .answer)) (step-damaged (unpacked block) k v), refl)
 
-    pub call-done : (after : List ℕ) → d .answer .status < 10 → after ≡ packed (d .table) → Comes n after
+    -- SEND and RETRIEVE: the whole table is written
+    pub call-done : (es cs after : List ℕ) → es ≡ step t k .table .element → cs ≡ step t k .table .criterion → d .answer .status < 10
+        → after ≡ wholePut (d .front) es cs block → Comes n after
     unfolding callBlock
-    call-done after low p = go (valid (unpacked block)) refl
-      where
-        go : (b : Bool) → valid (unpacked block) ≡ b → Comes n after
-        go true v = rw (looked-at block size u, v) (answered, p ∙ ap (λ x. packed (x .table)) e)
-        go false v = let ten : d .answer .status ≡ 10 = ap (λ x. x .answer .status) (e ∙ step-damaged (unpacked block) k v) in absurd (omega arith)
+    call-done es cs after p q low w =
+        let together : whole (d .front) es cs ≡ step (unpacked block) k .table = rw (p, q, e, is) refl in
+        let sized = subst Sized (sym together) (step-sized (unpacked block) k (unpacked-sized block)) in
+        rw (looked-at block size u, accepted low) (answered, w ∙ whole-put (d .front) es cs block sized size ∙ ap packed together)
+
+    -- the other calls leave the store's bytes
+    pub call-kept : every isByte block ≡ true → (eqb (k .operation) SEND || eqb (k .operation) RETRIEVE) ≡ false → d .answer .status < 10
+        → (after : List ℕ) → after ≡ frontPacked (d .front) block → Comes n after
+    unfolding callBlock
+    call-kept small other low after w =
+        let v = accepted low in
+        let kept = step-contents (unpacked block) k other in
+        let front : d .front ≡ frontOf (step (unpacked block) k .table) = ap (λ x. x .front) e ∙ ap (λ x. frontOf (step x k .table)) is in
+        let together : whole (d .front) (unpacked block .element) (unpacked block .criterion) ≡ step (unpacked block) k .table =
+        rw front (ap₂ (whole (frontOf (step (unpacked block) k .table))) (sym (kept .0)) (sym (kept .1)))
+        in
+        let sized = subst Sized (sym together) (step-sized (unpacked block) k (unpacked-sized block)) in
+        rw (looked-at block size u, v) (answered, w ∙ front-back (d .front) block small size sized ∙ ap packed together)
 
     pub call-refused : every isByte block ≡ true → 10 ≤ d .answer .status → Comes n block
     unfolding callBlock
     call-refused small high = go (valid (unpacked block)) refl
       where
         left : step (unpacked block) k .table ≡ unpacked block
-        left = step-left (unpacked block) k (rw e at high)
+        left = step-left (unpacked block) k (rw same-answer at high)
 
         go : (b : Bool) → valid (unpacked block) ≡ b → Comes n block
         go true v = rw (looked-at block size u, v) (answered, sym (ap packed left ∙ bytes-back block small size u))

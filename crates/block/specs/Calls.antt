@@ -15,7 +15,7 @@ use Rattle.rules.specs.Answers.{replied}
 use Rattle.rules.specs.Step.{step}
 use Rattle.rules.specs.Fresh.{fresh}
 use Rattle.rules.specs.Queries.{arrivedQuery, emptyQuery, fullQuery, priorityQuery, stateQuery}
-use Rattle.block.specs.Layout.{blockSize, unpacked, packed, isTable}
+use Rattle.layout.specs.Layout.{blockSize, unpacked, packed, isTable}
 
 -- an answer as one number of 64 bits: status, elected, key, a byte that is 0, and the value in the upper half
 unfoldable pub answerNumber : Answer → ℕ

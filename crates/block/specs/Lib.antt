@@ -1,4 +1,2 @@
--- The table in a block of bytes: the layout, and the three calls on a block.
-pub mod Layout
-pub mod Groups
+-- The three calls on a block.
 pub mod Calls

@@ -4,7 +4,7 @@ ghost use mathlib.Core.Path.{_≡_};
 ghost use Rattle.block.specs.Calls.{answerNumber};
 
 // Bits 0 to 7 are the status, 8 to 15 the elected task, 16 to 23 the key and 32 to 63 the value; the byte between is 0.
-pub(crate) fn answer_number(r: Answer) -> u64
+pub fn answer_number(r: Answer) -> u64
     ensures { λ n. ⌜ n ≡ answerNumber r ⌝ }
 {
     (r.status as u64)

@@ -1,9 +1,9 @@
-// The table in a block of bytes that the firmware lends: pack, unpack, and the three exported calls.
+// The table in a block of bytes that the firmware lends: the three exported calls.
 mod answer;
-mod calls;
-mod layout;
+mod exports;
 mod query;
 
-pub use calls::tankwesho_call;
-pub use calls::tankwesho_fresh;
-pub use calls::tankwesho_query;
+pub use answer::answer_number;
+pub use exports::tankwesho_call;
+pub use exports::tankwesho_fresh;
+pub use exports::tankwesho_query;

@@ -1,17 +1,34 @@
-// The queries by number.
+// The queries by number, on the table that a block holds.
+use calls::table_of;
 use executive::arrived;
 use executive::empty;
 use executive::full;
 use executive::priority;
 use executive::state;
+use layout::front_in;
+use layout::store_in;
 use rules::Answer;
+use rules::STORE;
 use rules::Table;
 use whole_table::is_valid;
 ghost use mathlib.Core.Path.{_≡_};
 ghost use mathlib.Core.Bool.{cond};
+ghost use lib.ListN.{length};
 ghost use Rattle.rules.specs.Validity.{valid};
 ghost use Rattle.rules.specs.Answers.{replied};
+ghost use Rattle.layout.specs.Layout.{blockSize, unpacked};
 ghost use Rattle.block.specs.Calls.{queryOrTen, notATable};
+
+// The whole table.
+pub(crate) fn unpack(block: &[u8]) -> Table
+    requires { ⌜ length (now block) ≡ blockSize ⌝ }
+    ensures { λ r. ⌜ r ≡ unpacked (now (block .entry)) ⌝ }
+{
+    let mut element = [0u32; STORE];
+    let mut criterion = [0u8; STORE];
+    store_in(block, &mut element, &mut criterion);
+    table_of(front_in(block), element, criterion)
+}
 
 // What a number above 4 gets: 10 comes before 11.
 fn unknown_query(t: Table) -> Answer

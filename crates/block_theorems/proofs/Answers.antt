@@ -26,7 +26,7 @@ use Rattle.rules.proofs.Validity.{parts-of}
 use Rattle.theorems.proofs.Kept.{valid-kept}
 use Rattle.theorems.proofs.Refused.{one}
 use Rattle.packing.proofs.RoundTrips.{fits}
-use Rattle.block.specs.Layout.{blockSize, unpacked, isTable}
+use Rattle.layout.specs.Layout.{blockSize, unpacked, isTable}
 use Rattle.block.specs.Calls.{answerNumber, notATable, freshBlock, callBlock, query, queryBlock}
 use Rattle.block_theorems.specs.Ranges.{byteEnd, wordEnd, areBytes, elementsInRange, answerInRange}
 use Rattle.block_theorems.specs.Answers.{answerIn, AnswerReadBack, OneNumber, AnswersRead, OneStored}

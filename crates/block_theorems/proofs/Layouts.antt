@@ -16,8 +16,8 @@ use Rattle.rules.proofs.Counts.{below-all}
 use Rattle.packing.specs.Bytes.{bytes, spread}
 use Rattle.packing.specs.Timers.{timerWidth, unusedPlace, timersIn, timersBytes}
 use Rattle.packing.proofs.RoundTrips.{fits, bytes-length, bytes-small, spread-length, spread-small, numbers-spread, timers-length, timers-small, timers-read, timers-unused}
-use Rattle.block.specs.Layout.{priorityPlace, statePlace, arrivedPlace, listPlace, operatorPlace, holderPlace, entriesPlace, boundPlace, lengthPlace, elementPlace, criterionPlace, ticksPlace, timersPlace, blockSize, part, unpacked, packed, unusedZero}
-use Rattle.block.proofs.Back.{bytes-back as packed-unpacked}
+use Rattle.layout.specs.Layout.{priorityPlace, statePlace, arrivedPlace, listPlace, operatorPlace, holderPlace, entriesPlace, boundPlace, lengthPlace, elementPlace, criterionPlace, ticksPlace, timersPlace, blockSize, part, unpacked, packed, unusedZero}
+use Rattle.layout.proofs.Back.{bytes-back as packed-unpacked}
 use Rattle.block_theorems.specs.Ranges.{areBytes}
 use Rattle.block_theorems.specs.Packed.{BytesBack}
 use Rattle.block_theorems.proofs.Fitting.{Sized, Fitting}

@@ -12,7 +12,7 @@ use Rattle.rules.proofs.Bools.{given, shown}
 use Rattle.rules.proofs.Lists.{every-drop}
 use Rattle.rules.proofs.Validity.{parts-of}
 use Rattle.packing.proofs.RoundTrips.{isByte, numbers-fit}
-use Rattle.block.specs.Layout.{elementPlace, blockSize, unpacked, isTable}
+use Rattle.layout.specs.Layout.{elementPlace, blockSize, unpacked, isTable}
 use Rattle.block_theorems.specs.Packed.{PackThenUnpack, UnpackThenPack, ZerosRefused}
 use Rattle.block_theorems.proofs.Fitting.{sized, fitting}
 use Rattle.block_theorems.proofs.Layouts.{packed-small, packed-size, packed-back, packed-unused, bytes-back}

@@ -10,7 +10,7 @@ use Rattle.rules.specs.declared.Answer.{Answer}
 use Rattle.rules.specs.Fresh.{fresh}
 use Rattle.rules.specs.Step.{step}
 use Rattle.theorems.specs.Refused.{One}
-use Rattle.block.specs.Layout.{blockSize, unpacked, isTable}
+use Rattle.layout.specs.Layout.{blockSize, unpacked, isTable}
 use Rattle.block.specs.Calls.{answerNumber, Stored, notATable, freshBlock, callBlock, query, queryBlock}
 use Rattle.block_theorems.specs.Ranges.{areBytes, answerInRange}
 

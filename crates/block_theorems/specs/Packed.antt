@@ -6,7 +6,7 @@ use mathlib.Core.List.{List}
 use lib.ListN.{length, replicate}
 use Rattle.rules.specs.declared.Table.{Table}
 use Rattle.rules.specs.Validity.{valid}
-use Rattle.block.specs.Layout.{blockSize, unpacked, packed, unusedZero, isTable}
+use Rattle.layout.specs.Layout.{blockSize, unpacked, packed, unusedZero, isTable}
 use Rattle.block_theorems.specs.Ranges.{areBytes, elementsInRange}
 
 -- the block of a table: of the one size, of bytes, accepted, and with the table in it

@@ -1,6 +1,6 @@
 // Upper-case hexadecimal, read and written.
 ghost use mathlib.Core.Path.{_≡_};
-ghost use Prim.Native.Nat.{_≤_, _<_};
+ghost use Prim.Native.Nat.{_+_, _*_, _≤_, _<_};
 ghost use lib.ListN.{length, take, drop};
 ghost use Rattle.rules.specs.Words.{every};
 ghost use Rattle.digits.specs.Digits.{isDigit, digit, value, field, character, digits};
@@ -34,6 +34,13 @@ fn digit_of(b: u8) -> u8
         return b - 55;
     }
     0
+}
+
+// The number in two digits, wherever they stand.
+pub fn pair_of(high: u8, low: u8) -> u8
+    ensures { λ r. ⌜ r ≡ digit high * 16 + digit low ⌝ }
+{
+    digit_of(high) * 16 + digit_of(low)
 }
 
 // The number in up to eight digits.

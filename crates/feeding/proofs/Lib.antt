@@ -1,4 +1,5 @@
 -- Laws for this crate's proofs and for its callers'.
 pub mod Cuts
 pub mod Turns
+pub mod Straight
 pub mod Feeding

@@ -13,14 +13,17 @@ use Rattle.rules.proofs.Retrieve.{before-le}
 use Rattle.lines.specs.declared.ends.Line.{Line}
 use Rattle.lines.specs.declared.ends.Line.the-variants.{Whole, TooLong, Unended, Nothing}
 use Rattle.lines.specs.Ends.{lineFeed, longest, lineIn, lineAt, part}
+use Rattle.rules.specs.declared.Table.{Table}
 use Rattle.rules.specs.declared.Done.{Done}
 use Rattle.opening.specs.declared.Standing.{Standing}
 use Rattle.feeding.specs.declared.turn.Turn.{Turn}
-use Rattle.bench_line.specs.Steps.{malformed, tooLong, lineDone}
+use Rattle.feeding.specs.declared.turn.Asked.{Asked}
+use Rattle.bench_line.specs.declared.Heard.{Heard}
+use Rattle.bench_line.specs.Steps.{malformed, tooLong, lineDone, nothingHeard, heard, heardDone}
 use Rattle.feeding.specs.Lines.{cut}
-use Rattle.feeding.specs.Feed.{turned, turnOf, turnAt}
+use Rattle.feeding.specs.Feed.{standing, turned, turnOf, turnAt, asked, askedOf, askedAt}
 use Rattle.feeding.proofs.Cuts.{cut-ended, cut-unended}
-use Rattle.bench_line.proofs.Called.{too-long-done}
+use Rattle.bench_line.proofs.Called.{later-done, too-long-done}
 
 -- r took a line
 pub record Took (s : Standing) (input : List ℕ) (at : ℕ) (r : Turn) : Type 0 where
@@ -153,3 +156,34 @@ module _ (s : Standing) (input : List ℕ) (at : ℕ) (l : Line) (e : l ≡ line
 
   pub turn-nothing : l ≡ Nothing → d ≡ malformed (s .table) → turned d 0 ≡ turnAt s input at
   turn-nothing k h = ap (λ x. turned x 0) h ∙ turn-of Nothing k
+
+-- ---- the same for a line behind the first, by what it asks for
+
+module _ (input : List ℕ) (at : ℕ) (l : Line) (e : l ≡ lineAt input at) (h : Heard) where
+  asked-of : (found : Line) → l ≡ found → askedOf input found ≡ askedAt input at
+  unfolding askedAt
+  asked-of found k = ap (askedOf input) (sym k ∙ e)
+
+  pub asked-whole : (from to next : ℕ) → l ≡ Whole from to next → h ≡ heard (part from to input) → asked h next ≡ askedAt input at
+  asked-whole from to next k g = ap (λ x. asked x next) g ∙ asked-of (Whole from to next) k
+
+  pub asked-too-long : (next : ℕ) → l ≡ TooLong next → h ≡ nothingHeard → asked h next ≡ askedAt input at
+  asked-too-long next k g = ap (λ x. asked x next) g ∙ asked-of (TooLong next) k
+
+  pub asked-unended : l ≡ Unended → h ≡ nothingHeard → asked h 0 ≡ askedAt input at
+  asked-unended k g = ap (λ x. asked x 0) g ∙ asked-of Unended k
+
+  pub asked-nothing : l ≡ Nothing → h ≡ nothingHeard → asked h 0 ≡ askedAt input at
+  asked-nothing k g = ap (λ x. asked x 0) g ∙ asked-of Nothing k
+
+-- a later line's turn is what it asks for, done
+pub asked-turn : (t : Table) (input : List ℕ) (at : ℕ) (a : Asked) → a ≡ askedAt input at
+    → turned (heardDone t (a .heard)) (a .next) ≡ turnAt (standing t true) input at
+unfolding turnAt askedAt lineDone tooLong heardDone
+asked-turn t input at a e = ap (λ b. turned (heardDone t (b .heard)) (b .next)) e ∙ go (lineAt input at)
+  where
+    go : (l : Line) → turned (heardDone t (askedOf input l .heard)) (askedOf input l .next) ≡ turnOf (standing t true) input l
+    go (Whole from to next) = ap (λ d. turned d next) (later-done t (part from to input))
+    go (TooLong next) = refl
+    go Unended = refl
+    go Nothing = refl

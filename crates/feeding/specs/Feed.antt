@@ -1,18 +1,28 @@
 -- The ended lines of a piece of the input, answered into a lent buffer: as many as it has room for.
-use Prim.Native.Nat.{ℕ, suc, _+_, _*_, _/_}
-use mathlib.Core.Bool.{Bool}
+use Prim.Native.Nat.{ℕ, suc, _+_, _*_, _-_, _/_}
+use mathlib.Core.Bool.{Bool, true, cond, not, _&&_}
 use mathlib.Core.List.{List, [], _∷_, _++_}
-use lib.ListN.{length, take, drop}
+use lib.Dec.{eqb, leb}
+use lib.ListN.{length, take, drop, getD}
 use Rattle.lines.specs.declared.ends.Line.{Line}
 use Rattle.lines.specs.declared.ends.Line.the-variants.{Whole, TooLong, Unended, Nothing}
-use Rattle.lines.specs.Ends.{lineAt, part}
+use Rattle.lines.specs.Ends.{lineFeed, lineAt, part}
 use Rattle.rules.specs.declared.Table.{Table}
 use Rattle.rules.specs.declared.Done.{Done}
+use Rattle.rules.specs.Words.{isZero, every}
+use Rattle.digits.specs.Digits.{isDigit}
+use Rattle.frames.specs.Calls.{callLength}
+use Rattle.frames.specs.Answers.{answerLine, placed}
 use Rattle.opening.specs.declared.Standing.{Standing}
-use Rattle.bench_line.specs.Steps.{malformed, tooLong, lineDone}
+use Rattle.bench_line.specs.declared.Heard.{Heard}
+use Rattle.bench_line.specs.Steps.{malformed, tooLong, lineDone, nothingHeard, heard}
 use Rattle.feeding.specs.declared.turn.Turn.{Turn}
+use Rattle.feeding.specs.declared.turn.Asked.{Asked}
 use Rattle.feeding.specs.declared.Fed.{Fed}
 use Rattle.feeding.specs.Lines.{cut, answered, stood}
+
+abbrev pub standing : Table → Bool → Standing
+standing t begun = record { table = t; begun = begun }
 
 -- ---- the line that begins at a place
 
@@ -28,6 +38,25 @@ turnOf s input Nothing = turned (malformed (s .table)) 0
 
 unfoldable pub turnAt : Standing → List ℕ → ℕ → Turn
 turnAt s input at = turnOf s input (lineAt input at)
+
+-- "a call line": 28 digits, and its line feed behind them
+unfoldable pub callLineAt : List ℕ → ℕ → Bool
+callLineAt input at =
+    leb (at + suc callLength) (length input)
+    && (eqb (getD input (at + callLength) 0) lineFeed && every isDigit (part at (at + callLength) input))
+
+-- what a line behind the first asks for, and the place behind it
+abbrev pub asked : Heard → ℕ → Asked
+asked h next = record { heard = h; next = next }
+
+abbrev pub askedOf : List ℕ → Line → Asked
+askedOf input (Whole from to next) = asked (heard (part from to input)) next
+askedOf input (TooLong next) = asked nothingHeard next
+askedOf input Unended = asked nothingHeard 0
+askedOf input Nothing = asked nothingHeard 0
+
+unfoldable pub askedAt : List ℕ → ℕ → Asked
+askedAt input at = askedOf input (lineAt input at)
 
 -- ---- the lines of a piece
 
@@ -53,6 +82,41 @@ pieceAnswers s room input = answered s (fitting room input)
 
 abbrev pub fedAt : Table → Bool → ℕ → ℕ → Fed
 fedAt t begun next written = record { standing = record { table = t; begun = begun }; next = next; written = written }
+
+-- the first line is answered: the session stands before it, there is room for its answer, and it is ended
+unfoldable pub opens : Standing → ℕ → List ℕ → Bool
+opens s room input = not (s .begun) && (leb answerLength room && not (isZero (turnAt s input 0 .next)))
+
+unfoldable pub openedTold : Standing → ℕ → List ℕ → Fed
+openedTold s room input =
+    cond (opens s room input)
+    (fedAt (turnAt s input 0 .done .table) true (turnAt s input 0 .next) answerLength)
+    (fedAt (s .table) (s .begun) 0 0)
+
+unfoldable pub openedOut : Standing → List ℕ → List ℕ → List ℕ
+openedOut s input out =
+    cond (opens s (length out) input) (placed 0 (answerLine (turnAt s input 0 .done .answer)) out) out
+
+-- the lines from a place on, as many as there may be
+abbrev pub ahead : List ℕ → ℕ → ℕ → List (List ℕ)
+ahead input at left = take left (cut (drop at input) .lines)
+
+-- the later lines from a place on, where so many bytes are written and the buffer has so many
+abbrev pub laterLines : List ℕ → ℕ → ℕ → ℕ → List (List ℕ)
+laterLines input at written room = ahead input at ((room - written) / answerLength)
+
+unfoldable pub laterTold : Table → List ℕ → ℕ → ℕ → ℕ → Fed
+laterTold t input at written room =
+    record {
+      standing = stood (standing t true) (laterLines input at written room);
+      next = at + taken (laterLines input at written room);
+      written = written + answerLength * length (laterLines input at written room);
+    }
+
+unfoldable pub laterOut : Table → List ℕ → ℕ → ℕ → List ℕ → List ℕ
+laterOut t input at written out =
+    (take written out ++ answered (standing t true) (laterLines input at written (length out)))
+    ++ drop (written + answerLength * length (laterLines input at written (length out))) out
 
 unfoldable pub feedTold : Standing → ℕ → List ℕ → Fed
 feedTold s room input =

@@ -1,12 +1,18 @@
 // The ended lines of a piece of the input, one after the other.
 use crate::Fed;
-use crate::turn::turn_at;
+use crate::turn::asked_at;
+use crate::turn::first_turn;
+use bench_line::line_lent;
+use calls::front_of;
+use calls::table_of;
+use executive::front_valid;
 use frames::put_answer;
 use opening::Standing;
 use rules::Table;
 ghost use mathlib.Core.Path.{_≡_};
+ghost use Prim.Native.Nat.{_≤_};
 ghost use lib.ListN.{length};
-ghost use Rattle.feeding.specs.Feed.{fedAt, feedTold, pieceAnswers, over};
+ghost use Rattle.feeding.specs.Feed.{fedAt, openedTold, openedOut, laterTold, laterOut, feedTold, pieceAnswers, over};
 
 fn fed_at(t: Table, begun: bool, next: usize, written: usize) -> Fed
     ensures { λ r. ⌜ r ≡ fedAt t begun next written ⌝ }
@@ -21,36 +27,68 @@ fn fed_at(t: Table, begun: bool, next: usize, written: usize) -> Fed
     }
 }
 
+// Answers the first line, where the session stands before it, the line is ended and there is room.
+fn opened(s: Standing, input: &[u8], out: &mut [u8]) -> Fed
+    ensures told { λ r. ⌜ r ≡ openedTold s (length (now (out .entry))) (now (input .entry)) ⌝ }
+    ensures answers { λ _. ⌜ now (out .exit) ≡ openedOut s (now (input .entry)) (now (out .entry)) ⌝ }
+{
+    let t = s.table;
+    if s.begun {
+        return fed_at(t, true, 0, 0);
+    }
+    if out.len() < 15 {
+        return fed_at(t, false, 0, 0);
+    }
+    let r = first_turn(t, input);
+    let next = r.next;
+    if next == 0 {
+        return fed_at(t, false, 0, 0);
+    }
+    let d = r.done;
+    put_answer(out, 0, d.answer);
+    let u = d.table;
+    fed_at(u, true, next, 15)
+}
+
+// Answers the later lines from `at` on, as many as there is room for behind the `written` bytes. The table is looked at once: whether it is
+// valid stays as it is from line to line. Its store stays where it is, lent to each call.
+fn feed_later(t: Table, input: &[u8], mut at: usize, mut written: usize, out: &mut [u8]) -> Fed
+    requires { ⌜ written ≤ length (now out) ⌝ }
+    ensures told { λ r. ⌜ r ≡ laterTold t (now (input .entry)) at written (length (now (out .entry))) ⌝ }
+    ensures answers { λ _. ⌜ now (out .exit) ≡ laterOut t (now (input .entry)) at written (now (out .entry)) ⌝ }
+{
+    let mut element = t.element;
+    let mut criterion = t.criterion;
+    let mut f = front_of(t);
+    let ok = front_valid(f, &element, &criterion);
+    let mut left = (out.len() - written) / 15;
+    while 0 < left {
+        let a = asked_at(input, at);
+        let next = a.next;
+        if next == 0 {
+            return fed_at(table_of(f, element, criterion), true, at, written);
+        }
+        let h = a.heard;
+        let d = line_lent(f, ok, h, &mut element, &mut criterion);
+        put_answer(out, written, d.answer);
+        f = d.front;
+        at = next;
+        written = written + 15;
+        left = left - 1;
+    }
+    fed_at(table_of(f, element, criterion), true, at, written)
+}
+
 // Answers as many lines as `out` has room for.
 pub fn feed(s: Standing, input: &[u8], out: &mut [u8]) -> Fed
     ensures told { λ r. ⌜ r ≡ feedTold s (length (now (out .entry))) (now (input .entry)) ⌝ }
     ensures answers { λ _. ⌜ now (out .exit) ≡ over (pieceAnswers s (length (now (out .entry))) (now (input .entry))) (now (out .entry)) ⌝ }
 {
-    let mut t = s.table;
-    let mut begun = s.begun;
-    let mut at = 0;
-    let mut written = 0;
-    let mut left = out.len() / 15;
-    while 0 < left {
-        let r = turn_at(
-            Standing {
-                table: t,
-                begun: begun,
-            },
-            input,
-            at,
-        );
-        let next = r.next;
-        if next == 0 {
-            return fed_at(t, begun, at, written);
-        }
-        let d = r.done;
-        put_answer(out, written, d.answer);
-        t = d.table;
-        begun = true;
-        at = next;
-        written = written + 15;
-        left = left - 1;
+    let o = opened(s, input, out);
+    let stands = o.standing;
+    if !stands.begun {
+        return o;
     }
-    fed_at(t, begun, at, written)
+    let t = stands.table;
+    feed_later(t, input, o.next, o.written, out)
 }

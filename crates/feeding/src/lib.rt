@@ -1,4 +1,5 @@
 // The ended lines of a piece of the input, answered one after the other.
+mod call_line;
 mod ended;
 mod turn;
 

@@ -1,2 +1,3 @@
 -- Laws for this crate's proofs and for its callers'.
 pub mod Written
+pub mod Pairs

@@ -1,6 +1,6 @@
 // Whether each queue's bound and length fit, with nothing but 0 behind it.
-use crate::zeros::criteria_zero;
-use crate::zeros::elements_zero;
+use crate::zeros::criteria_behind;
+use crate::zeros::elements_behind;
 use rules::PLACES;
 use rules::QUEUES;
 use rules::STORE;
@@ -32,11 +32,11 @@ fn queue_right<'a>(
     requires { ⌜ (q < queueRoom) × (length (now element) ≡ storeSize) × (length (now criterion) ≡ storeSize) ⌝ }
     ensures { λ r. ⌜ r ≡ queueRight queues q bound n (now (element .entry)) (now (criterion .entry)) ⌝ }
 {
-    let from = q * PLACES + (n as usize);
-    let to = q * PLACES + PLACES;
+    let start = q * PLACES;
+    let from = start + (n as usize);
     let fits = bound_fits(queues, q, bound, n);
-    let elements = elements_zero(element, from, to);
-    let criteria = criteria_zero(criterion, from, to);
+    let elements = elements_behind(element, start, from);
+    let criteria = criteria_behind(criterion, start, from);
     fits & (elements & criteria)
 }
 

@@ -7,6 +7,7 @@ use native.Mathlib.Omega.{arith}
 use lib.Dec.{eqb, ltb, leb}
 use lib.ListN.{length}
 use borrow.Author.Tests.{eqb-true, ne-eqb, ltb-true, leb-true, lt-ltb, not-false}
+use Rattle.rules.specs.declared.Timer.{Timer}
 use Rattle.rules.specs.declared.Table.{Table}
 use Rattle.rules.specs.declared.Call.{Call}
 use Rattle.rules.specs.Numbers.{queueRoom, WAIT, ENTER, SEND, RETRIEVE, TICK}
@@ -21,11 +22,7 @@ use Rattle.rules.proofs.Queues.{queue-length}
 use Rattle.rules.proofs.Validity.{Parts, parts-of, sound}
 use Rattle.rules.proofs.Refusals.{first-append}
 use Rattle.retrieving.proofs.Places.{none-is}
-use Rattle.refusals.specs.Late.{lacking, lateFlags}
-
-abbrev pub early : Bool → ℕ → Call → List Reason
-early ok elected c =
-    when 10 (not ok) ∷ when 11 (ltb TICK (c .operation)) ∷ when 13 (outsideBarred c) ∷ when 12 (notElected elected (c .caller)) ∷ when 13 (tickByTask c) ∷ []
+use Rattle.refusals.specs.Late.{lacking, lateFlags, early, refusalBy}
 
 abbrev pub flagsOf : Table → Call → List Reason
 flagsOf t c = lateFlags (t .tasks) (t .regions) (t .queues) (t .state) (t .holder) (t .entries) (t .bound) (t .length) (t .criterion) (t .timers) c
@@ -104,11 +101,28 @@ valid-then : (ok : Bool) (elected : ℕ) (c : Call) → first (early ok elected 
 valid-then true elected c h = refl
 valid-then false elected c h = let z : _≡_ {A = ℕ} 10 0 = h in absurd (omega arith)
 
-module _ (t : Table) (c : Call) (ok : Bool) (s : ℕ) (is : ok ≡ valid t) (found : s ≡ first (early ok (t .elected) c)) where
-  pub refused-early : (s ≡ 0 → ⊥) → s ≡ refusal t c
-  refused-early n = let e : first (early (valid t) (t .elected) c) ≡ s = rw is at (sym found) in sym (refusal-is t c ∙ simp (e, ne-eqb s 0 n))
+-- of a table whose validity is known, the code's first reason is the rules'
+pub refusal-by : (t : Table) (c : Call) (ok : Bool) → ok ≡ valid t
+    → refusalBy ok (t .tasks) (t .regions) (t .queues) (t .elected) (t .state) (t .holder) (t .entries) (t .bound) (t .length) (t .criterion) (t .timers) c
+    ≡ refusal t c
+unfolding refusalBy
+refusal-by t c ok is = go (isZero (first (early (valid t) (t .elected) c))) refl
+  where
+    go : (none : Bool) → isZero (first (early (valid t) (t .elected) c)) ≡ none
+        → refusalBy ok (t .tasks) (t .regions) (t .queues) (t .elected) (t .state) (t .holder) (t .entries) (t .bound) (t .length) (t .criterion) (t .timers) c
+        ≡ refusal t c
+    go true e =
+        let v = valid-then (valid t) (t .elected) c (eqb-true _ 0 e) in
+        rw (is, e) (late-same t v c ∙ sym (refusal-is t c ∙ rw e refl))
+    go false e = rw (is, e) (sym (refusal-is t c ∙ rw e refl))
 
-  pub refused-late : s ≡ 0 → (r : ℕ) → r ≡ first (flagsOf t c) → r ≡ refusal t c
-  refused-late z r h =
-      let e : first (early (valid t) (t .elected) c) ≡ 0 = sym (rw is at found) ∙ z in
-      h ∙ late-same t (valid-then (valid t) (t .elected) c e) c ∙ sym (refusal-is t c ∙ simp e)
+module _ (ok : Bool) (tasks regions queues elected : ℕ) (state holder entries bound lengths criterion : List ℕ) (timers : List Timer) (c : Call) (s : ℕ)
+    (found : s ≡ first (early ok elected c)) where
+  pub refused-early : (s ≡ 0 → ⊥) → s ≡ refusalBy ok tasks regions queues elected state holder entries bound lengths criterion timers c
+  unfolding refusalBy
+  refused-early n = rw (← found, ne-eqb s 0 n) refl
+
+  pub refused-late : s ≡ 0 → (r : ℕ) → r ≡ first (lateFlags tasks regions queues state holder entries bound lengths criterion timers c)
+      → r ≡ refusalBy ok tasks regions queues elected state holder entries bound lengths criterion timers c
+  unfolding refusalBy
+  refused-late z r h = rw (← found, z) h

@@ -1,4 +1,4 @@
--- The reasons from 14 on, as the code tests them over lent arrays: of a valid table they are the rules' own.
+-- The reasons as the code tests them over lent arrays: of a valid table those from 14 on are the rules' own.
 use Prim.Native.Nat.{ℕ, _+_, _*_}
 use mathlib.Core.Bool.{Bool, false, cond, not, _&&_}
 use mathlib.Core.List.{List, [], _∷_}
@@ -7,9 +7,9 @@ use lib.ListN.{getD}
 use Rattle.rules.specs.declared.Timer.{Timer}
 use Rattle.rules.specs.declared.Call.{Call}
 use Rattle.rules.specs.Numbers.{queueRoom, places, WAIT, ENTER, SEND, RETRIEVE, TICK}
-use Rattle.rules.specs.Words.{isZero, byOperation, Reason, when}
+use Rattle.rules.specs.Words.{isZero, byOperation, Reason, when, first}
 use Rattle.rules.specs.Regions.{held}
-use Rattle.rules.specs.Refusals.{missing, badOperator, stoppedAt, othersAt, wrongState, leaves, entriesFull}
+use Rattle.rules.specs.Refusals.{outsideBarred, notElected, tickByTask, missing, badOperator, stoppedAt, othersAt, wrongState, leaves, entriesFull}
 use Rattle.retrieving.specs.Places.{placeIn}
 
 -- 18 by places of the store: the place found is the end of the queue
@@ -56,3 +56,15 @@ lateFlags tasks regions queues state holder entries bound lengths criterion time
     ∷ when 18 (lacking lengths criterion c)
     ∷ when 22 (eqb (c .operation) ENTER && entriesFull entries (c .a))
     ∷ []
+
+-- those before 14, where `ok` says whether the table is valid
+abbrev pub early : Bool → ℕ → Call → List Reason
+early ok elected c =
+    when 10 (not ok) ∷ when 11 (ltb TICK (c .operation)) ∷ when 13 (outsideBarred c) ∷ when 12 (notElected elected (c .caller)) ∷ when 13 (tickByTask c) ∷ []
+
+-- the first reason of all
+unfoldable pub refusalBy : Bool → ℕ → ℕ → ℕ → ℕ → List ℕ → List ℕ → List ℕ → List ℕ → List ℕ → List ℕ → List Timer → Call → ℕ
+refusalBy ok tasks regions queues elected state holder entries bound lengths criterion timers c =
+    cond (isZero (first (early ok elected c)))
+    (first (lateFlags tasks regions queues state holder entries bound lengths criterion timers c))
+    (first (early ok elected c))

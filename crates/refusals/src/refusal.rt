@@ -11,16 +11,14 @@ use regions::held_by;
 use retrieving::place_of;
 use rules::Call;
 use rules::Timer;
-use validity::valid_of;
 ghost use mathlib.Core.Path.{_≡_};
 ghost use mathlib.Core.Bool.{not, _&&_};
 ghost use lib.Dec.{eqb, leb};
 ghost use lib.ListN.{length, getD};
 ghost use Rattle.rules.specs.Words.{isZero, first};
 ghost use Rattle.rules.specs.Regions.{held};
-ghost use Rattle.rules.specs.Refusals.{leaves, entriesFull, refusal};
-ghost use Rattle.validity.specs.Lent.{lent};
-ghost use Rattle.refusals.specs.Late.{lacking, wrongTask, taskFlags, queueFlags, timerFlags, lateFlags};
+ghost use Rattle.rules.specs.Refusals.{leaves, entriesFull};
+ghost use Rattle.refusals.specs.Late.{lacking, wrongTask, taskFlags, queueFlags, timerFlags, lateFlags, refusalBy};
 
 // 15 of the calls about tasks: START of a task not stopped, STOP or SIGNAL of a stopped one.
 fn wrong_task_of(state: &[u8; 32], k: Call) -> bool
@@ -156,59 +154,30 @@ fn late_of<'a>(
     task_reason_of(state, holder, entries, k)
 }
 
-// The first reason that applies, 0 where none does.
+// The first reason that applies, 0 where none does; `ok` says whether the table is valid.
 pub fn refusal_of<'a>(
+    ok: bool,
     tasks: u8,
     regions: u8,
     queues: u8,
     elected: u8,
-    priority: &'a [u8; 32],
     state: &'a [u8; 32],
-    arrived: &'a [u16; 32],
-    list: &'a [u16; 32],
-    operator: &'a [u8; 32],
     holder: &'a [u8; 16],
     entries: &'a [u8; 16],
     bound: &'a [u8; 8],
     lengths: &'a [u8; 8],
-    element: &'a [u32; 512],
     criterion: &'a [u8; 512],
-    ticks: u32,
     timers: [Timer; 16],
     k: Call,
 ) -> u8
-    requires { ⌜ length (now priority) ≡ 32 ⌝ }
     requires { ⌜ length (now state) ≡ 32 ⌝ }
-    requires { ⌜ length (now arrived) ≡ 32 ⌝ }
-    requires { ⌜ length (now list) ≡ 32 ⌝ }
-    requires { ⌜ length (now operator) ≡ 32 ⌝ }
     requires { ⌜ length (now holder) ≡ 16 ⌝ }
     requires { ⌜ length (now entries) ≡ 16 ⌝ }
     requires { ⌜ length (now bound) ≡ 8 ⌝ }
     requires { ⌜ length (now lengths) ≡ 8 ⌝ }
-    requires { ⌜ length (now element) ≡ 512 ⌝ }
     requires { ⌜ length (now criterion) ≡ 512 ⌝ }
-    ensures { λ r. ⌜ r ≡ refusal (lent tasks regions queues elected (now (priority .entry)) (now (state .entry)) (now (arrived .entry)) (now (list .entry)) (now (operator .entry)) (now (holder .entry)) (now (entries .entry)) (now (bound .entry)) (now (lengths .entry)) (now (element .entry)) (now (criterion .entry)) ticks timers) k ⌝ }
+    ensures { λ r. ⌜ r ≡ refusalBy ok tasks regions queues elected (now (state .entry)) (now (holder .entry)) (now (entries .entry)) (now (bound .entry)) (now (lengths .entry)) (now (criterion .entry)) timers k ⌝ }
 {
-    let ok = valid_of(
-        tasks,
-        regions,
-        queues,
-        elected,
-        priority,
-        state,
-        arrived,
-        list,
-        operator,
-        holder,
-        entries,
-        bound,
-        lengths,
-        element,
-        criterion,
-        ticks,
-        timers,
-    );
     let early = early_of(ok, elected, k);
     if early != 0 {
         return early;

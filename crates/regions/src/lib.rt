@@ -3,6 +3,7 @@ ghost use mathlib.Core.Path.{_≡_};
 ghost use lib.ListN.{length};
 ghost use Rattle.rules.specs.Regions.{held};
 ghost use Rattle.rules.specs.Validity.{entriesFit};
+ghost use Rattle.regions.specs.Joined.{joined};
 ghost use Rattle.rules.proofs.Validity.{regionFits, regionsRight, entriesEverywhere, holderRight};
 
 // The first occupied region's entry, 0 where all are free.
@@ -18,10 +19,23 @@ pub fn held_by(holder: &[u8; 16]) -> u8
     0
 }
 
-fn region_fits(regions: u8, v: u8, i: usize, h: u8) -> bool
+// The entries' bits, joined. Where all occupied regions have the same entry it is this one, and where they have not, `regions_right` finds
+// that no entry is all of theirs: so the check needs no walk to the first occupied region.
+pub fn joined_by(holder: &[u8; 16]) -> u8
+    requires { ⌜ length (now holder) ≡ 16 ⌝ }
+    ensures { λ r. ⌜ r ≡ joined 0 (now (holder .entry)) ⌝ }
+{
+    let mut bits: u8 = 0;
+    for i in 0..16 {
+        bits = bits | holder[i];
+    }
+    bits
+}
+
+fn region_fits(regions: u8, v: u8, i: u8, h: u8) -> bool
     ensures { λ r. ⌜ r ≡ regionFits regions v i h ⌝ }
 {
-    (h == 0) | ((i < (regions as usize)) & (h == v))
+    (h == 0) | ((i < regions) & (h == v))
 }
 
 // Every occupied region lies below the count and has the entry v.
@@ -31,7 +45,7 @@ pub fn regions_right(regions: u8, v: u8, holder: &[u8; 16]) -> bool
 {
     let mut ok = true;
     for i in 0..16 {
-        let fits = region_fits(regions, v, i, holder[i]);
+        let fits = region_fits(regions, v, i as u8, holder[i]);
         ok = ok & fits;
     }
     ok

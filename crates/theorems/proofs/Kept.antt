@@ -11,7 +11,7 @@ use borrow.Author.Tests.{eqb-true, eqb-false, eq-eqb, ne-eqb, ltb-true, ltb-fals
 use Rattle.rules.specs.declared.Task.{Task}
 use Rattle.rules.specs.declared.Table.{Table}
 use Rattle.rules.specs.declared.Call.{Call}
-use Rattle.rules.specs.Numbers.{listEnd, eventEnd, criterionEnd, timerRoom, longestDelay, nobody, outside}
+use Rattle.rules.specs.Numbers.{storeSize, listEnd, eventEnd, criterionEnd, timerRoom, longestDelay, nobody, outside}
 use Rattle.rules.specs.Words.{isZero, byOperation}
 use Rattle.rules.specs.Tasks.{isStopped, isReady, asStarted, asStopped, signalled, waited, asCleared}
 use Rattle.rules.specs.Regions.{held}
@@ -19,16 +19,16 @@ use Rattle.rules.specs.Queues.{place}
 use Rattle.rules.specs.Timers.{disarmed}
 use Rattle.rules.specs.Election.{readyAt, priorityAt}
 use Rattle.rules.specs.Tables.{taskOf, boundOf, queueOf, changed, withElected, settled}
-use Rattle.rules.specs.Validity.{valid}
+use Rattle.rules.specs.Validity.{shaped, valid}
 use Rattle.rules.specs.Refusals.{notElected, absent, badKey, badDelay, stoppedAt, missing, wrongState, leaves, refusal}
 use Rattle.rules.specs.Effects.{stoppedTable, nothing, operations, effect}
 use Rattle.rules.specs.Step.{step}
-use Rattle.rules.proofs.Bools.{or-left, or-right, not-intro}
+use Rattle.rules.proofs.Bools.{given, or-left, or-right, not-intro}
 use Rattle.rules.proofs.Tasks.{signalled-stopped, signalled-ready}
 use Rattle.rules.proofs.Validity.{Parts, parts-of, valid-parts, row-right, elected-ready, elected-below}
 use Rattle.rules.proofs.Refusals.{Accepted, accepted-facts}
 use Rattle.rules.proofs.Effects.{each-effect}
-use Rattle.theorems.specs.Kept.{ValidKept, ValidAfter, RefusedSame}
+use Rattle.theorems.specs.Kept.{ValidKept, ValidAfter, RefusedSame, ValidSame}
 use Rattle.theorems.proofs.Rows.{Fits, started-fits, stopped-fits, waited-fits, cleared-fits, signalled-fits, waited-awake, below-room, timers-awake, timers-stopped, keep-task}
 use Rattle.theorems.proofs.Regions.{holder-elected, enter-right, exit-right, keep-region}
 use Rattle.theorems.proofs.Queues.{keep-send, keep-retrieve, queue-short}
@@ -207,3 +207,24 @@ valid-after t (c ∷ cs) v = valid-after (step t c .table) cs (valid-kept t c v)
 pub refused-same : RefusedSame
 unfolding step
 refused-same t c n = rw (ne-eqb (refusal t c) 0 n)
+
+pub valid-same : ValidSame
+valid-same t c = go (valid t) refl
+  where
+    go : (b : Bool) → valid t ≡ b → valid (step t c .table) ≡ valid t
+    go true v = valid-kept t c v ∙ sym v
+    go false v = ap valid (refused-same t c (λ z. absurd (true≢false (sym (accepted-facts t c z .is-valid) ∙ v))))
+
+-- the store keeps its size: after an accepted call by validity, after a refused one since nothing changes
+pub store-kept : (t : Table) (c : Call) → (length (t .element) ≡ storeSize) × (length (t .criterion) ≡ storeSize)
+    → (length (step t c .table .element) ≡ storeSize) × (length (step t c .table .criterion) ≡ storeSize)
+unfolding shaped
+store-kept t c h = go (isZero (refusal t c)) refl
+  where
+    go : (b : Bool) → isZero (refusal t c) ≡ b
+        → (length (step t c .table .element) ≡ storeSize) × (length (step t c .table .criterion) ≡ storeSize)
+    go true z =
+        let v = valid-kept t c (accepted-facts t c (eqb-true _ 0 z) .is-valid) in
+        let e = given _ (parts-of (step t c .table) v .shape) in
+        (eqb-true _ _ (e .1 .1 .1 .1 .1 .1 .1 .1 .1 .0), eqb-true _ _ (e .1 .1 .1 .1 .1 .1 .1 .1 .1 .1 .0))
+    go false z = rw (refused-same t c (eqb-false _ 0 z)) h

@@ -27,6 +27,10 @@ ValidAfter = (t : Table) (cs : List Call) → valid t ≡ true → valid (afterA
 abbrev pub RefusedSame : Type 0
 RefusedSame = (t : Table) (c : Call) → refusal t c ≢ 0 → step t c .table ≡ t
 
+-- so whether a table is valid stays as it is, and need not be looked at again
+abbrev pub ValidSame : Type 0
+ValidSame = (t : Table) (c : Call) → valid (step t c .table) ≡ valid t
+
 abbrev pub FreshValid : Type 0
 FreshValid =
     (tasks regions queues : ℕ) (priorities bounds : List ℕ) → configurationInRange tasks regions queues priorities bounds ≡ true

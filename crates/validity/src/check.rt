@@ -4,8 +4,8 @@ use election::elected_by;
 use queues::criteria_right;
 use queues::queues_right;
 use regions::entries_right;
-use regions::held_by;
 use regions::holder_right;
+use regions::joined_by;
 use regions::regions_right;
 use rules::Timer;
 use tasks::tasks_right;
@@ -15,7 +15,8 @@ ghost use lib.ListN.{length};
 ghost use Rattle.rules.specs.Validity.{valid};
 ghost use Rattle.validity.specs.Lent.{lent};
 
-// The holder is looked for once, and serves the regions' part and the election.
+// The regions' entries are joined once, and serve the regions' part and the election. There is a way out before each call and each loop, so
+// that the numbers of a part in packed instructions are done with, and need not be put aside.
 pub fn valid_of<'a>(
     tasks: u8,
     regions: u8,
@@ -48,17 +49,24 @@ pub fn valid_of<'a>(
     requires { ⌜ length (now criterion) ≡ 512 ⌝ }
     ensures { λ r. ⌜ r ≡ valid (lent tasks regions queues elected (now (priority .entry)) (now (state .entry)) (now (arrived .entry)) (now (list .entry)) (now (operator .entry)) (now (holder .entry)) (now (entries .entry)) (now (bound .entry)) (now (lengths .entry)) (now (element .entry)) (now (criterion .entry)) ticks timers) ⌝ }
 {
-    let counts = counts_right(tasks, regions, queues);
-    let columns = tasks_right(tasks, priority, state, arrived, list, operator);
-    let v = held_by(holder);
+    let v = joined_by(holder);
     let held = regions_right(regions, v, holder);
     let counted = entries_right(holder, entries);
-    let ready = holder_right(tasks, state, v);
-    let stores = queues_right(queues, bound, lengths, element, criterion);
-    let criteria = criteria_right(criterion);
+    if !(held & counted) {
+        return false;
+    }
     let who = elected_by(v, state, priority);
+    let ready = holder_right(tasks, state, v);
+    if !(ready & (elected == who)) {
+        return false;
+    }
+    let counts = counts_right(tasks, regions, queues);
+    let stores = queues_right(queues, bound, lengths, element, criterion);
     let clock = timers_right(tasks, ticks, timers, state);
-    counts
-        & (columns
-            & (held & (counted & (ready & (stores & (criteria & ((elected == who) & clock)))))))
+    if !(counts & (stores & clock)) {
+        return false;
+    }
+    let columns = tasks_right(tasks, priority, state, arrived, list, operator);
+    let criteria = criteria_right(criterion);
+    columns & criteria
 }

@@ -5,12 +5,21 @@ use native.Mathlib.Numerals.{add-one}
 use native.Mathlib.Omega.{arith}
 use mathlib.Core.Bool.{cond, _&&_}
 use lib.Dec.{eqb}
-use lib.ListN.{getD}
+use mathlib.Core.List.{List}
+use lib.ListN.{getD, length, replicate}
 use Rattle.rules.specs.declared.Table.{Table}
 use Rattle.rules.specs.declared.Call.{Call}
 use Rattle.rules.specs.declared.Answer.{Answer}
 use Rattle.rules.specs.declared.Done.{Done}
+use Rattle.rules.specs.Numbers.{storeSize}
+use Rattle.rules.specs.Words.{all, every}
+use Rattle.rules.specs.Validity.{countsInRange}
+use Rattle.rules.specs.Fresh.{configurationInRange, freshTable, fresh}
 use Rattle.rules.specs.Step.{step}
+use Rattle.theorems.proofs.Kept.{store-kept}
+use Rattle.calls.specs.declared.Front.{Front}
+use Rattle.calls.specs.declared.FrontDone.{FrontDone}
+use Rattle.calls.specs.Fronts.{whole, frontOf, frontDone}
 use Rattle.workload.specs.Draw.{next, taskOf, callOf}
 use Rattle.workload.specs.Run.{Run, at, first, noted, turn, run}
 use Rattle.workload.specs.Counts.{times, counted, ran}
@@ -67,3 +76,22 @@ pub draw-end : (seed calls i x sum : ℕ) → having x sum ≡ draws seed i → 
 draw-end seed calls i x sum here below above =
     let same : i ≡ calls = omega arith in
     ap (λ (d : Drawn). d .sum) here ∙ ap (λ (j : ℕ). draws seed j .sum) same
+
+-- ---- on a table whose store is lent
+
+-- a fresh table's store is all 0
+pub first-whole : (t : Table) → t ≡ first → (f : Front) → f ≡ frontOf t → whole f (replicate storeSize 0) (replicate storeSize 0) ≡ first
+unfolding first fresh configurationInRange freshTable all every countsInRange
+first-whole t e f g = rw (g, e) refl
+
+module _ (f : Front) (es cs : List ℕ) (k : Call) (d : FrontDone) (p : d ≡ frontDone (step (whole f es cs) k))
+    (es′ : List ℕ) (q : es′ ≡ step (whole f es cs) k .table .element) (cs′ : List ℕ) (r : cs′ ≡ step (whole f es cs) k .table .criterion) where
+  -- the call as one on the whole table
+  abbrev made : Done
+  made = record { table = whole (d .front) es′ cs′; answer = d .answer }
+
+  pub made-is : made ≡ step (whole f es cs) k
+  made-is = rw (q, r, p) refl
+
+  pub still-long : (length es ≡ storeSize) × (length cs ≡ storeSize) → (length es′ ≡ storeSize) × (length cs′ ≡ storeSize)
+  still-long l = rw (q, r) (store-kept (whole f es cs) k l)

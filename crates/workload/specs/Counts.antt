@@ -3,7 +3,7 @@ use Prim.Native.Nat.{ℕ, zero, suc, _+_}
 use mathlib.Core.Bool.{Bool, cond, _&&_}
 use lib.Dec.{eqb}
 use Rattle.rules.specs.Step.{step}
-use Rattle.workload.specs.declared.calls.Ran.{Ran}
+use Rattle.workload.specs.declared.mixed.Ran.{Ran}
 use Rattle.workload.specs.Run.{Run, callIn, run}
 
 -- whether the next call of a run is of this operation and gets this status

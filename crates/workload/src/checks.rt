@@ -1,6 +1,6 @@
 // The validity check alone, on a table that mixed calls lead to.
-use crate::calls::run_of;
 use crate::draw::next_of;
+use crate::mixed::run_of;
 use crate::tally::counted;
 use rules::Table;
 use validity::valid_of;

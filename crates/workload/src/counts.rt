@@ -1,5 +1,5 @@
 // What the mix of calls is made of.
-use crate::calls::run_of;
+use crate::mixed::run_of;
 ghost use mathlib.Core.Path.{_≡_};
 ghost use Rattle.workload.specs.Counts.{times};
 

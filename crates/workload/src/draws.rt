@@ -1,10 +1,10 @@
 // The calls drawn and noted, but not made: what a run costs beside its calls.
-use crate::calls::first_table;
-use crate::calls::noted_by;
 use crate::draw::call_of;
 use crate::draw::next_of;
 use crate::draw::seeded_by;
 use crate::draw::task_of;
+use crate::mixed::first_table;
+use crate::mixed::noted_by;
 use rules::Answer;
 use rules::Call;
 ghost use mathlib.Core.Path.{_≡_};

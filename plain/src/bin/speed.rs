@@ -65,8 +65,15 @@ fn summed(sum: u64, answer: u64) -> u64 {
     sum.rotate_left(5) ^ answer
 }
 
+/// A piece of the log: its calls, and the same as numbers, five for each call.
+struct Piece<'a> {
+    calls: &'a [Call],
+    #[cfg(feature = "proved")]
+    numbers: Vec<u32>,
+}
+
 /// A run under way: it takes a piece of the log and gives the sum of its answers.
-type Run = Box<dyn FnMut(&[Call]) -> u64>;
+type Run = Box<dyn FnMut(&Piece) -> u64>;
 
 /// One way to run the log: its name, the plain side that it is held to, and how a run begins.
 struct Side {
@@ -75,7 +82,7 @@ struct Side {
     begin: fn() -> Run,
 }
 
-/// A further way to run the proved side (by value, without the check) is a further entry here.
+/// A further way to run either side is a further entry here.
 const SIDES: &[Side] = &[
     Side {
         name: "plain, in place",
@@ -89,7 +96,19 @@ const SIDES: &[Side] = &[
     },
     #[cfg(feature = "proved")]
     Side {
-        name: "proved, on a block",
+        name: "proved, replay, check at every call",
+        against: 0,
+        begin: || proved_replay(true),
+    },
+    #[cfg(feature = "proved")]
+    Side {
+        name: "proved, replay, check once",
+        against: 1,
+        begin: || proved_replay(false),
+    },
+    #[cfg(feature = "proved")]
+    Side {
+        name: "proved, call by call on a block",
         against: 0,
         begin: proved_on_block,
     },
@@ -97,14 +116,31 @@ const SIDES: &[Side] = &[
 
 fn plain_run(call: impl Fn(&mut Table, &Call) -> Answer + 'static) -> Run {
     let mut table = MEASURED.fresh().expect("in range");
-    Box::new(move |piece| piece.iter().fold(0, |sum, one| summed(sum, call(&mut table, one).packed())))
+    Box::new(move |piece| piece.calls.iter().fold(0, |sum, one| summed(sum, call(&mut table, one).packed())))
+}
+
+#[cfg(feature = "proved")]
+fn proved_replay(each: bool) -> Run {
+    let mut block = vec![0; plain::block::SIZE];
+    plain::proved::fresh(&mut block, &MEASURED);
+    let mut answers = vec![0; PIECE];
+    Box::new(move |piece| {
+        let made = plain::proved::replay(&mut block, &piece.numbers, &mut answers, each);
+        assert_eq!(made as usize, piece.calls.len());
+        answers[..piece.calls.len()].iter().fold(0, |sum, &answer| summed(sum, answer))
+    })
 }
 
 #[cfg(feature = "proved")]
 fn proved_on_block() -> Run {
     let mut block = vec![0; plain::block::SIZE];
     plain::proved::fresh(&mut block, &MEASURED);
-    Box::new(move |piece| piece.iter().fold(0, |sum, one| summed(sum, plain::proved::call(&mut block, one))))
+    Box::new(move |piece| {
+        piece
+            .calls
+            .iter()
+            .fold(0, |sum, one| summed(sum, plain::proved::call(&mut block, one)))
+    })
 }
 
 /// The times of one thing, by piece and repeat.
@@ -158,10 +194,18 @@ fn show(name: &str, times: &Times, against: &Times) {
 
 /// The calls in one process: each piece by every side in turn, the whole log again and again.
 fn in_process(calls: &[Call], repeats: usize) -> Result<(), String> {
-    let mut times = vec![Times::new(calls.len().div_ceil(PIECE)); SIDES.len()];
+    let pieces: Vec<Piece> = calls
+        .chunks(PIECE)
+        .map(|calls| Piece {
+            calls,
+            #[cfg(feature = "proved")]
+            numbers: plain::proved::numbers(calls),
+        })
+        .collect();
+    let mut times = vec![Times::new(pieces.len()); SIDES.len()];
     for _ in 0..repeats {
         let mut runs: Vec<Run> = SIDES.iter().map(|side| (side.begin)()).collect();
-        for (number, piece) in calls.chunks(PIECE).enumerate() {
+        for (number, piece) in pieces.iter().enumerate() {
             let mut expected = None;
             for (at, run) in runs.iter_mut().enumerate() {
                 let (time, sum) = timed(clock::own, || run(piece));

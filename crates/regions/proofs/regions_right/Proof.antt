@@ -19,6 +19,9 @@ loop-holds : tie.Need-loop-holds Inv-loop μ-loop
 unfolding below
 loop-holds c = search needs
 
+cast-region-fits : tie.Need-cast-region-fits Inv-loop μ-loop
+cast-region-fits c = search needs
+
 element-copy-out-region-fits : tie.Need-element-copy-out-region-fits Inv-loop μ-loop
 element-copy-out-region-fits c = search needs
 
@@ -45,6 +48,7 @@ regions-right-spec =
     Inv-loop
     μ-loop
     loop-holds
+    cast-region-fits
     element-copy-out-region-fits
     region-fits-requires
     add-i

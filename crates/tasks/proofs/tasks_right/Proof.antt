@@ -1,19 +1,23 @@
--- The flag so far is the test of every task passed.
+-- The flag so far is the test of every task passed; with what is 0 past the count it is the whole test.
 use borrow.Author.Needs.{needs}
 use Prim.Native.Nat.{_≤_, _-_}
 use mathlib.Core.Path.{_≡_}
 use lib.ListN.{getD}
 use Rattle.rules.specs.Words.{below}
 use Rattle.rules.proofs.Counts.{below-again, below-end}
-use Rattle.rules.proofs.Validity.{rowFits, tasksRight}
+use Rattle.rules.proofs.Validity.{rowRight}
+use Rattle.tasks.proofs.Rows.{tasks-is}
 use Rattle.tasks.proofs.tasks_right.Statement.{statement}
 use Rattle.tasks.proofs.tasks_right.Tie as tie
 
 abbrev Inv-loop : tie.InvT-loop
-Inv-loop tasks priority state arrived list operator ok₀ i₀ ok i = (i ≤ 32) × (ok ≡ below i (λ j. rowFits tasks j (getD priority j 0) (getD state j 0) (getD arrived j 0) (getD list j 0) (getD operator j 0)))
+Inv-loop tasks priority state arrived list operator rest ok₀ i₀ ok i = (i ≤ 32) × (ok ≡ below i (λ j. rowRight (getD priority j 0) (getD state j 0) (getD arrived j 0) (getD list j 0) (getD operator j 0)))
 
 abbrev μ-loop : tie.MeasureT-loop
-μ-loop tasks priority state arrived list operator ok₀ i₀ ok i = 32 - i
+μ-loop tasks priority state arrived list operator rest ok₀ i₀ ok i = 32 - i
+
+rest-zero-requires : tie.Need-rest-zero-requires Inv-loop μ-loop
+rest-zero-requires c κs = search needs
 
 loop-holds : tie.Need-loop-holds Inv-loop μ-loop
 unfolding below
@@ -50,12 +54,10 @@ loop-less : tie.Need-loop-less Inv-loop μ-loop
 loop-less c = search needs
 
 loop-again : tie.Need-loop-again Inv-loop μ-loop
-unfolding rowFits
 loop-again c = (search needs, below-again _ _ _ _ (c .before .before .before .before .before .before .before .loop .inv .1) (c .row-fits .ensures))
 
 returns : tie.Need-returns Inv-loop μ-loop
-unfolding tasksRight
-returns c = below-end _ 32 _ _ (c .before .loop .inv .1) (search needs) (search needs)
+returns c = tasks-is _ _ _ _ _ _ (below-end _ 32 _ _ (c .before .loop .inv .1) (search needs) (search needs)) (c .before .before .rest-zero .ensures)
 
 pub tasks-right-spec : {M : Type 1} → statement M
 tasks-right-spec =
@@ -63,6 +65,7 @@ tasks-right-spec =
     (tie.spec
     Inv-loop
     μ-loop
+    rest-zero-requires
     loop-holds
     element-copy-out-row-fits
     element-copy-out-row-fits-2

@@ -1,4 +1,4 @@
-//! Both executives on the same blocks: valid ones call by call, damaged ones, ones near the counter's end, and ones of wrong size.
+//! Both executives on the same blocks: valid ones call by call and by whole logs, damaged ones, ones near the counter's end, and ones of wrong size.
 
 use plain::answer::{Call, OUTSIDE};
 use plain::author::{Author, Manner, EDGES};
@@ -33,9 +33,10 @@ const MANNER: Manner = Manner {
 type Part = (&'static str, fn() -> Compared);
 
 pub fn compare() -> Compared {
-    let parts: [Part; 5] = [
+    let parts: [Part; 6] = [
         ("fresh blocks", fresh_blocks),
         ("blocks call by call", replayed),
+        ("logs replayed at once", at_once),
         ("damaged blocks", damaged),
         ("blocks at the counter's end", near_the_end),
         ("blocks of other sizes", other_sizes),
@@ -120,6 +121,37 @@ fn fresh_blocks() -> Compared {
         answers += agree(&|| format!("{configuration:?}"), (both.0, &ours), (both.1, &theirs))?;
     }
     Ok(answers)
+}
+
+/// A whole log in one replay, with the check once and at every call, against the same calls one after the other; every fourth block is
+/// damaged first, and some replays have room for fewer answers than calls.
+fn at_once() -> Compared {
+    let mut agreed = 0;
+    for seed in 0..LOGS {
+        let (configuration, mut author) = author(seed);
+        let mut block = vec![0; SIZE];
+        block::fresh(&mut block, &configuration);
+        if seed % 4 == 3 {
+            block[usize::from(seed as u8)] ^= 0x40;
+        }
+        let calls: Vec<Call> = (0..CALLS)
+            .map(|number| if number % 4 == 3 { author.hostile_call() } else { author.call() }.0)
+            .collect();
+        let room = if seed % 5 == 4 { calls.len() / 3 } else { calls.len() };
+        let mut theirs = block.clone();
+        let expected: Vec<u64> = calls[..room].iter().map(|call| block::call(&mut theirs, call)).collect();
+        for each in [false, true] {
+            let (mut ours, mut answers) = (block.clone(), vec![0; room]);
+            let made = proved::replay(&mut ours, &proved::numbers(&calls), &mut answers, each);
+            if (made as usize, &ours, &answers) != (room, &theirs, &expected) {
+                return Err(format!(
+                    "replay of seed {seed}, {made} of {room} calls: another answer or another block"
+                ));
+            }
+            agreed += made;
+        }
+    }
+    Ok(agreed)
 }
 
 fn replayed() -> Compared {

@@ -1,35 +1,19 @@
--- Each number is the one in its field.
+-- Both ways give the call in the line.
 use borrow.Author.Needs.{needs}
-use Rattle.frames.specs.Calls.{callIn}
 use Rattle.frames.proofs.call.call_of.Statement.{statement}
 use Rattle.frames.proofs.call.call_of.Tie as tie
 
-byte-at-requires : tie.Need-byte-at-requires
-byte-at-requires c κs = search needs
-
-byte-at-requires-2 : tie.Need-byte-at-requires-2
-byte-at-requires-2 c κs = search needs
-
-word-at-requires : tie.Need-word-at-requires
-word-at-requires c κs = search needs
-
-word-at-requires-2 : tie.Need-word-at-requires-2
-word-at-requires-2 c κs = search needs
-
-word-at-requires-3 : tie.Need-word-at-requires-3
-word-at-requires-3 c κs = search needs
+by-fields-requires : tie.Need-by-fields-requires
+by-fields-requires c κs = search needs
 
 returns : tie.Need-returns
-unfolding callIn
-returns c = cc
+returns c = search needs
+
+by-pairs-requires : tie.Need-by-pairs-requires
+by-pairs-requires c κs = search needs
+
+returns-2 : tie.Need-returns-2
+returns-2 c = search needs
 
 pub call-of-spec : {M : Type 1} → statement M
-call-of-spec =
-    tie.close
-    (tie.spec
-    byte-at-requires
-    byte-at-requires-2
-    word-at-requires
-    word-at-requires-2
-    word-at-requires-3
-    returns)
+call-of-spec = tie.close (tie.spec by-fields-requires returns by-pairs-requires returns-2)

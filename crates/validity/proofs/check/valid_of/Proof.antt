@@ -1,9 +1,9 @@
--- Each part is its definition, and together they are validity of a table of this shape.
+-- Each part is its definition: a way out is a part that fails, and at the end the rest is validity of a table of this shape.
 use borrow.Author.Needs.{needs}
 use mathlib.Core.Path.{_≡_}
 use lib.ListN.{length}
 use Rattle.validity.specs.Lent.{Lengths}
-use Rattle.validity.proofs.Checked.{shaped-lent, check-is}
+use Rattle.validity.proofs.Checked.{shaped-lent, regions-wrong, elected-wrong, loops-wrong, check-is}
 use Rattle.validity.proofs.check.valid_of.Statement.{statement}
 use Rattle.validity.proofs.check.valid_of.Tie as tie
 
@@ -13,14 +13,8 @@ long c = search needs
 timers-long : (c : tie.Start) → length (c .args .timers) ≡ 16
 timers-long c = search needs
 
-counts-right-requires : tie.Need-counts-right-requires
-counts-right-requires c κs = search needs
-
-tasks-right-requires : tie.Need-tasks-right-requires
-tasks-right-requires c κs = search needs
-
-held-by-requires : tie.Need-held-by-requires
-held-by-requires c κs = search needs
+joined-by-requires : tie.Need-joined-by-requires
+joined-by-requires c κs = search needs
 
 regions-right-requires : tie.Need-regions-right-requires
 regions-right-requires c κs = search needs
@@ -28,36 +22,54 @@ regions-right-requires c κs = search needs
 entries-right-requires : tie.Need-entries-right-requires
 entries-right-requires c κs = search needs
 
-holder-right-requires : tie.Need-holder-right-requires
-holder-right-requires c κs = search needs
-
-queues-right-requires : tie.Need-queues-right-requires
-queues-right-requires c κs = search needs
-
-criteria-right-requires : tie.Need-criteria-right-requires
-criteria-right-requires c κs = search needs
+returns : tie.Need-returns
+returns c = regions-wrong _ (long (c .before .before .before .before) .holder-long) _ (c .before .before .before .joined-by .ensures) _ _ (c .before .before .regions-right .ensures) (c .before .entries-right .ensures) (c .if1 .taken)
 
 elected-by-requires : tie.Need-elected-by-requires
 elected-by-requires c κs = search needs
 
+holder-right-requires : tie.Need-holder-right-requires
+holder-right-requires c κs = search needs
+
+returns-2 : tie.Need-returns-2
+returns-2 c = elected-wrong _ (long (c .before .before .before .before .before .before .before) .holder-long) _ (c .before .before .before .before .before .before .joined-by .ensures) _ (c .before .before .elected-by .ensures) _ (c .before .holder-right .ensures) (c .if2 .taken)
+
+counts-right-requires : tie.Need-counts-right-requires
+counts-right-requires c κs = search needs
+
+queues-right-requires : tie.Need-queues-right-requires
+queues-right-requires c κs = search needs
+
 timers-right-requires : tie.Need-timers-right-requires
 timers-right-requires c κs = search needs
 
-returns : tie.Need-returns
-returns c = check-is _ (shaped-lent _ _ _ _ _ _ _ _ _ _ _ _ _ _ _ _ _ (long (c .before .before .before .before .before .before .before .before .before .before)) (timers-long (c .before .before .before .before .before .before .before .before .before .before))) _ _ (c .before .before .before .before .before .before .before .held-by .ensures) (c .before .elected-by .ensures) _ _ _ _ _ _ _ _ (c .before .before .before .before .before .before .before .before .before .counts-right .ensures) (c .before .before .before .before .before .before .before .before .tasks-right .ensures) (c .before .before .before .before .before .before .regions-right .ensures) (c .before .before .before .before .before .entries-right .ensures) (c .before .before .before .before .holder-right .ensures) (c .before .before .before .queues-right .ensures) (c .before .before .criteria-right .ensures) (c .timers-right .ensures)
+returns-3 : tie.Need-returns-3
+returns-3 c = loops-wrong _ (long (c .before .before .before .before .before .before .before .before .before .before .before) .holder-long) _ (c .before .before .before .before .before .before .before .before .before .before .joined-by .ensures) _ _ _ (c .before .before .before .counts-right .ensures) (c .before .before .queues-right .ensures) (c .before .timers-right .ensures) (c .if3 .taken)
+
+tasks-right-requires : tie.Need-tasks-right-requires
+tasks-right-requires c κs = search needs
+
+criteria-right-requires : tie.Need-criteria-right-requires
+criteria-right-requires c κs = long (c .before .before .before .before .before .before .before .before .before .before .before .before) .criterion-long
+
+returns-4 : tie.Need-returns-4
+returns-4 c = check-is _ (long (c .before .before .before .before .before .before .before .before .before .before .before .before .before) .holder-long) _ (c .before .before .before .before .before .before .before .before .before .before .before .before .joined-by .ensures) (shaped-lent _ _ _ _ _ _ _ _ _ _ _ _ _ _ _ _ _ (long (c .before .before .before .before .before .before .before .before .before .before .before .before .before)) (timers-long (c .before .before .before .before .before .before .before .before .before .before .before .before .before))) _ (c .before .before .before .before .before .before .before .before .elected-by .ensures) _ _ _ _ _ _ _ _ (c .before .before .before .before .before .counts-right .ensures) (c .before .tasks-right .ensures) (c .before .before .before .before .before .before .before .before .before .before .before .regions-right .ensures) (c .before .before .before .before .before .before .before .before .before .before .entries-right .ensures) (c .before .before .before .before .before .before .before .holder-right .ensures) (c .before .before .before .before .queues-right .ensures) (c .criteria-right .ensures) (c .before .before .before .timers-right .ensures) (c .before .before .before .before .before .before .before .before .before .if1 .left) (c .before .before .before .before .before .before .if2 .left) (c .before .before .if3 .left)
 
 pub valid-of-spec : {M : Type 1} → statement M
 valid-of-spec =
     tie.close
     (tie.spec
-    counts-right-requires
-    tasks-right-requires
-    held-by-requires
+    joined-by-requires
     regions-right-requires
     entries-right-requires
-    holder-right-requires
-    queues-right-requires
-    criteria-right-requires
+    returns
     elected-by-requires
+    holder-right-requires
+    returns-2
+    counts-right-requires
+    queues-right-requires
     timers-right-requires
-    returns)
+    returns-3
+    tasks-right-requires
+    criteria-right-requires
+    returns-4)

@@ -4,7 +4,7 @@ use Rattle.workload.proofs.checks.tankwesho_mixed_checks.Statement.{sta
 use Rattle.workload.proofs.checks.tankwesho_mixed_checks.Tie as tie
 use Rattle.workload.proofs.checks.tankwesho_mixed_checks.Reads as reads
 use Rattle.workload.proofs.checks.tankwesho_mixed_checks.Lts as lts
-use Rattle.workload.proofs.calls.run_of.Reads as run-of-reads
+use Rattle.workload.proofs.mixed.run_of.Reads as run-of-reads
 use Rattle.workload.proofs.checks.checks_of.Reads as checks-of-reads
 
 run-of-requires : tie.Need-run-of-requires

@@ -1,7 +1,7 @@
 -- `tankwesho_mixed_count` returns the run's count.
 use borrow.Author.Needs.{needs}
 use mathlib.Core.Path.{ap}
-use Rattle.workload.specs.declared.calls.Ran.{Ran}
+use Rattle.workload.specs.declared.mixed.Ran.{Ran}
 use Rattle.workload.proofs.counts.tankwesho_mixed_count.Statement.{statement}
 use Rattle.workload.proofs.counts.tankwesho_mixed_count.Tie as tie
 

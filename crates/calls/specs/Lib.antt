@@ -1,0 +1,2 @@
+-- What a call on a lent store speaks of.
+pub mod Fronts

@@ -1,0 +1,12 @@
+// Where each part of the table stands in a block of bytes, and the table read from the block and written to it: its front, which goes by
+// value, and its store, which is lent.
+mod place;
+mod read;
+mod write;
+
+pub use place::SIZE;
+pub use read::front_in;
+pub use read::store_in;
+pub use read::unused_zero;
+pub use write::pack_front;
+pub use write::pack_whole;

@@ -1,0 +1,9 @@
+-- The regions' entries in one number, for code that looks for the holder without a branch.
+use Prim.Native.Nat.{ℕ}
+use mathlib.Core.List.{List, [], _∷_}
+use lib.Bits.{bitOr}
+
+-- the bits of all of them, and those of b
+unfoldable pub joined : ℕ → List ℕ → ℕ
+joined b [] = b
+joined b (h ∷ hs) = joined (bitOr b h) hs
