@@ -1,10 +1,12 @@
-// What ARM, DISARM and STOP make of the timers.
+// What a call finds of the timers, and what STOP makes of all of them.
+pub use one_timer::armed_timer;
+pub use one_timer::disarmed_timer;
+pub use one_timer::idle_if;
 use rules::TIMERS;
 use rules::Timer;
 ghost use mathlib.Core.Path.{_≡_};
-ghost use mathlib.Core.Bool.{cond};
 ghost use mathlib.Core.List.{map};
-ghost use Rattle.rules.specs.Timers.{idle, asArmed, disarmed};
+ghost use Rattle.rules.specs.Timers.{disarmed};
 ghost use Rattle.rules.specs.Refusals.{othersAt};
 
 // Whether another task than the caller has armed timer i.
@@ -17,40 +19,6 @@ pub fn others_at(timers: [Timer; TIMERS], caller: u8, i: u32) -> bool
         return (r.armed == 1) & (r.owner != caller);
     }
     false
-}
-
-// What ARM stores, whatever stood there.
-pub fn armed_timer(caller: u8, event: u8, date: u32) -> Timer
-    ensures { λ r. ⌜ r ≡ asArmed caller event date idle ⌝ }
-{
-    Timer {
-        armed: 1,
-        owner: caller,
-        event: event,
-        date: date,
-    }
-}
-
-// Idle where `over` says so, else as it was.
-pub fn idle_if(over: bool, r: Timer) -> Timer
-    ensures { λ q. ⌜ q ≡ cond over idle r ⌝ }
-{
-    if over {
-        return Timer {
-            armed: 0,
-            owner: 0,
-            event: 0,
-            date: 0,
-        };
-    }
-    r
-}
-
-// What DISARM by the task stores: another's timer stays as it is.
-pub fn disarmed_timer(task: u8, r: Timer) -> Timer
-    ensures { λ q. ⌜ q ≡ disarmed task r ⌝ }
-{
-    idle_if((r.armed == 1) & (r.owner == task), r)
 }
 
 // The timers once the task is stopped.

@@ -18,7 +18,7 @@ struct Turn {
 
 // Reads once behind the bytes that are held, answers the lines that have ended, and writes the answers. Where the input has ended, what
 // is held gets its answer; where a write fails, the run ends. Only with room for an answer line to every byte is each ended line answered
-// in its turn (`piece-part` of session's proofs), so that room is asked for.
+// in its turn (`piece-part` of session_theorems), so that room is asked for.
 fn turn_of(s: Standing, held: usize, buffer: &mut [u8], out: &mut [u8]) -> Turn
     requires { ⌜ (held ≤ 129) × (129 < length (now buffer)) × (15 * length (now buffer) ≤ length (now out)) ⌝ }
     ensures { λ r. ⌜ r .held ≤ 129 ⌝ }

@@ -8,17 +8,15 @@ use lib.ListN.{length}
 use borrow.Author.Tests.{ne-eqb, lt-leb, eqb-true}
 use Rattle.rules.specs.declared.Table.{Table}
 use Rattle.rules.specs.declared.Call.{Call}
-use Rattle.rules.specs.Numbers.{storeSize}
 use Rattle.rules.specs.Words.{every}
-use Rattle.rules.specs.Validity.{valid}
 use Rattle.rules.specs.Step.{step}
 use Rattle.digits.specs.Digits.{isDigit}
 use Rattle.lines.specs.Ends.{longest}
-use Rattle.frames.specs.Calls.{callLength, callIn}
-use Rattle.opening.specs.First.{plain, firstReasons, firstRefused, firstLine}
-use Rattle.opening.proofs.Plain.{not-true, not-false}
+use Rattle.call_fields.specs.Calls.{callLength, callIn}
+use Rattle.opening.specs.Start.{firstRefused}
+use Rattle.first_lines.specs.First.{plain, firstReasons, firstLine}
+use Rattle.first_lines.proofs.Plain.{not-true, not-false}
 use Rattle.opening.specs.declared.Standing.{Standing}
-use Rattle.theorems.proofs.Kept.{valid-same, store-kept}
 use Rattle.bench_line.specs.declared.Heard.{Heard}
 use Rattle.bench_line.specs.Steps.{malformed, callLine, tooLong, lineDone, asking, nothingHeard, heard, heardDone}
 
@@ -48,26 +46,6 @@ later-done t line = go (plain line && eqb (length line) callLength) refl
     go : (b : Bool) → (plain line && eqb (length line) callLength) ≡ b → heardDone t (heard line) ≡ callLine t line
     go true e = rw e refl
     go false e = rw e refl
-
--- and leaves a valid table valid, any other as it was
-pub heard-valid : (t : Table) (h : Heard) → valid (heardDone t h .table) ≡ valid t
-unfolding heardDone malformed
-heard-valid t h = go (h .good) refl
-  where
-    go : (b : Bool) → h .good ≡ b → valid (heardDone t h .table) ≡ valid t
-    go true e = rw e (valid-same t (h .call))
-    go false e = rw e refl
-
--- and its store keeps its size
-pub heard-long : (t : Table) (h : Heard) → (length (t .element) ≡ storeSize) × (length (t .criterion) ≡ storeSize)
-    → (length (heardDone t h .table .element) ≡ storeSize) × (length (heardDone t h .table .criterion) ≡ storeSize)
-unfolding heardDone malformed
-heard-long t h l = go (h .good) refl
-  where
-    go : (b : Bool) → h .good ≡ b
-        → (length (heardDone t h .table .element) ≡ storeSize) × (length (heardDone t h .table .criterion) ≡ storeSize)
-    go true e = rw e (store-kept t (h .call) l)
-    go false e = rw e l
 
 -- lines that are too long are all alike
 pub too-long-done : (s : Standing) (line : List ℕ) → longest < length line → tooLong s ≡ lineDone s line

@@ -1,11 +1,10 @@
-// What one line of the bench does once the first has come: it asks for a call, which is made, or it is malformed.
+// What one line of the bench asks for once the first has come: a call, or it is malformed.
 mod asking;
-mod made;
+mod malformed;
 
 pub use asking::heard_of;
 pub use asking::unheard;
-pub use made::line_lent;
-pub use made::malformed_answer;
+pub use malformed::malformed_answer;
 use rules::Call;
 
 // What a line asks for: a call, where it has the form of one.

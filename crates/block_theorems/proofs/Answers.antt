@@ -27,7 +27,8 @@ use Rattle.theorems.proofs.Kept.{valid-kept}
 use Rattle.theorems.proofs.Refused.{one}
 use Rattle.packing.proofs.RoundTrips.{fits}
 use Rattle.layout.specs.Layout.{blockSize, unpacked, isTable}
-use Rattle.block.specs.Calls.{answerNumber, notATable, freshBlock, callBlock, query, queryBlock}
+use Rattle.packing.specs.Answers.{answerNumber}
+use Rattle.layout.specs.Calls.{notATable, freshBlock, callBlock, query, queryBlock}
 use Rattle.block_theorems.specs.Ranges.{byteEnd, wordEnd, areBytes, elementsInRange, answerInRange}
 use Rattle.block_theorems.specs.Answers.{answerIn, AnswerReadBack, OneNumber, AnswersRead, OneStored}
 use Rattle.block_theorems.proofs.Fitting.{Fitting, elected-fits, fitting}

@@ -25,7 +25,8 @@ use Rattle.theorems.proofs.Fresh.{fresh-valid}
 use Rattle.packing.specs.Bytes.{bytes, spread}
 use Rattle.packing.specs.Timers.{timerBytes, timersBytes}
 use Rattle.layout.specs.Layout.{blockSize, unpacked, packed, isTable}
-use Rattle.block.specs.Calls.{answerNumber, Stored, stored, notATable, untouched, freshBlock, callBlock}
+use Rattle.packing.specs.Answers.{answerNumber}
+use Rattle.layout.specs.Calls.{Stored, stored, notATable, untouched, freshBlock, callBlock}
 use Rattle.block_theorems.specs.Ranges.{wordEnd, areBytes, elementsInRange, callInRange}
 use Rattle.block_theorems.specs.Answers.{answerIn}
 use Rattle.block_theorems.specs.Packed.{Packs}

@@ -11,7 +11,7 @@ use Rattle.rules.proofs.Lists.{every-head, every-tail}
 use Rattle.theorems.specs.Happenings.{Outer, signal, tick, Happening, outside, own, outerCall, callOf, calls, outers, Reply, reply, run as tableRun, callReplies as tableReplies, statusFirst as tableFirst, outerStatuses as tableStatuses, InTurn as TableInTurn}
 use Rattle.theorems.proofs.Order.{demand3}
 use Rattle.layout.specs.Layout.{unpacked, packed, isTable}
-use Rattle.block.specs.Calls.{callBlock, untouched}
+use Rattle.layout.specs.Calls.{callBlock, untouched}
 use Rattle.block_theorems.specs.Ranges.{wordEnd, areBytes, callInRange}
 use Rattle.block_theorems.specs.Happenings.{run, replyIn, callReplies, statusFirst, outerStatuses, InTurn, Demand3Blocks, Demand3Damaged}
 use Rattle.block_theorems.proofs.Packs.{unpack-then-pack}

@@ -11,7 +11,8 @@ use Rattle.rules.specs.Fresh.{fresh}
 use Rattle.rules.specs.Step.{step}
 use Rattle.theorems.specs.Refused.{One}
 use Rattle.layout.specs.Layout.{blockSize, unpacked, isTable}
-use Rattle.block.specs.Calls.{answerNumber, Stored, notATable, freshBlock, callBlock, query, queryBlock}
+use Rattle.packing.specs.Answers.{answerNumber}
+use Rattle.layout.specs.Calls.{Stored, notATable, freshBlock, callBlock, query, queryBlock}
 use Rattle.block_theorems.specs.Ranges.{areBytes, answerInRange}
 
 -- ---- an answer's number taken apart: bits 0 to 7, 8 to 15, 16 to 23, and the upper half

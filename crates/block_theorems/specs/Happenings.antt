@@ -7,7 +7,7 @@ use lib.ListN.{getD}
 use Rattle.rules.specs.Words.{every}
 use Rattle.theorems.specs.Happenings.{Outer, Happening, outside, own, outerCall, callOf, calls, outers, Reply, Free}
 use Rattle.layout.specs.Layout.{isTable}
-use Rattle.block.specs.Calls.{callBlock}
+use Rattle.layout.specs.Calls.{callBlock}
 use Rattle.block_theorems.specs.Ranges.{areBytes, callInRange}
 use Rattle.block_theorems.specs.Answers.{statusIn, keyIn, valueIn}
 

@@ -9,7 +9,7 @@ use Rattle.rules.specs.declared.Call.{Call}
 use Rattle.rules.specs.Fresh.{freshTable}
 use Rattle.rules.specs.Step.{step}
 use Rattle.layout.specs.Layout.{blockSize, unpacked, isTable}
-use Rattle.block.specs.Calls.{Stored, notATable, freshBlock, callBlock}
+use Rattle.layout.specs.Calls.{Stored, notATable, freshBlock, callBlock}
 use Rattle.block_theorems.specs.Ranges.{areBytes, callInRange}
 use Rattle.block_theorems.specs.Answers.{statusIn, answerIn}
 

@@ -30,11 +30,7 @@ use Rattle.rules.proofs.Refusals.{Accepted}
 use Rattle.rules.proofs.Entries.{entries-most}
 use Rattle.rules.proofs.Lists.{altered-set}
 use Rattle.rules.proofs.Effects.{upto}
-use Rattle.effects.specs.Effects.{target, taskAfter, regionAfter, timerAfter}
-
--- STOP and END of task i leave these timers
-abbrev pub timersLeft : ℕ → ℕ → List Timer → List Timer
-timersLeft operation i timers = cond (eqb operation STOP || eqb operation END) (map (disarmed i) timers) timers
+use Rattle.effects.specs.Effects.{target, taskAfter, regionAfter, timerAfter, timersLeft}
 
 module _ (t : Table) (c : Call) (a : Accepted t c) where
   parts : Parts t

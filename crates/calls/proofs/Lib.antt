@@ -1,5 +1,5 @@
 -- Laws that the proofs of this crate's functions cite, and those of its callers.
-pub mod Accepted
-pub mod Done
-pub mod Timed
+mod Accepted
+mod Done
+mod Runs
 pub mod Together

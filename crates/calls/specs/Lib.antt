@@ -1,2 +1,2 @@
--- What a call on a lent store speaks of.
-pub mod Fronts
+-- The definitions that this crate's contracts cite beside those of the rules.
+pub mod Log

@@ -11,7 +11,7 @@ use Rattle.rules.specs.Words.{all, every, padded}
 use Rattle.rules.specs.Validity.{countsInRange, boundInRange}
 use Rattle.rules.specs.Answers.{refused}
 use Rattle.rules.specs.Fresh.{configurationInRange, freshTable, zeroTable, fresh}
-use Rattle.configure.specs.Fresh.{freshBy}
+use Rattle.new_tables.specs.Fresh.{freshBy}
 
 module _ (tasks regions queues : ℕ) (priorities bounds : List ℕ) where
   abbrev Refuses : Type 0

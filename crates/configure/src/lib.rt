@@ -1,9 +1,9 @@
 // A fresh table from a configuration: counts, priorities and bounds.
+use new_tables::fresh_table;
+use new_tables::out_of_range;
 use rules::Answer;
 use rules::Done;
-use rules::Table;
-use rules::Timer;
-use validity::counts_right;
+use table_counts::counts_right;
 ghost use mathlib.Core.Path.{_≡_};
 ghost use mathlib.Core.Bool.{true};
 ghost use Prim.Native.Nat.{_≤_};
@@ -11,9 +11,7 @@ ghost use lib.Dec.{ltb};
 ghost use lib.ListN.{length, take};
 ghost use Rattle.rules.specs.Words.{every, padded};
 ghost use Rattle.rules.specs.Validity.{boundInRange};
-ghost use Rattle.rules.specs.Answers.{refused};
-ghost use Rattle.rules.specs.Fresh.{zeroTable, fresh as freshDone};
-ghost use Rattle.configure.specs.Fresh.{freshBy};
+ghost use Rattle.rules.specs.Fresh.{fresh as freshDone};
 
 // The first `tasks` priorities, and zeros behind them. That each is a priority is what their type says.
 fn priorities_of(tasks: usize, priorities: &[u8]) -> [u8; 32]
@@ -56,82 +54,6 @@ fn bounds_right(queues: usize, bounds: &[u8]) -> bool
         ok = ok & bound_right(bounds[i]);
     }
     ok
-}
-
-// The table of zeros, which stands for a refused configuration.
-fn zero_table() -> Table
-    ensures { λ r. ⌜ r ≡ zeroTable ⌝ }
-{
-    Table {
-        tasks: 0,
-        regions: 0,
-        queues: 0,
-        elected: 0,
-        priority: [0; 32],
-        state: [0; 32],
-        arrived: [0; 32],
-        list: [0; 32],
-        operator: [0; 32],
-        holder: [0; 16],
-        entries: [0; 16],
-        bound: [0; 8],
-        length: [0; 8],
-        element: [0; 512],
-        criterion: [0; 512],
-        ticks: 0,
-        timers: [Timer {
-            armed: 0,
-            owner: 0,
-            event: 0,
-            date: 0,
-        }; 16],
-    }
-}
-
-fn out_of_range() -> Done
-    ensures { λ r. ⌜ r ≡ refused zeroTable 20 ⌝ }
-{
-    Done {
-        table: zero_table(),
-        answer: Answer {
-            status: 20,
-            value: 0,
-            key: 0,
-            elected: 255,
-        },
-    }
-}
-
-// Task 0 is ready and elected, the others are stopped, regions free, queues empty, timers idle and the counter 0.
-fn fresh_table(tasks: u8, regions: u8, queues: u8, priority: [u8; 32], bound: [u8; 8]) -> Table
-    ensures { λ r. ⌜ r ≡ freshBy tasks regions queues priority bound ⌝ }
-{
-    let mut state = [0u8; 32];
-    state[0] = 1;
-    Table {
-        tasks: tasks,
-        regions: regions,
-        queues: queues,
-        elected: 0,
-        priority: priority,
-        state: state,
-        arrived: [0; 32],
-        list: [0; 32],
-        operator: [0; 32],
-        holder: [0; 16],
-        entries: [0; 16],
-        bound: bound,
-        length: [0; 8],
-        element: [0; 512],
-        criterion: [0; 512],
-        ticks: 0,
-        timers: [Timer {
-            armed: 0,
-            owner: 0,
-            event: 0,
-            date: 0,
-        }; 16],
-    }
 }
 
 // Lists longer than their counts are taken as far as the counts go; shorter ones are out of range.

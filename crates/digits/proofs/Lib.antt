@@ -1,3 +1,2 @@
 -- Laws for this crate's proofs and for its callers'.
 pub mod Hexadecimal
-pub mod Parts

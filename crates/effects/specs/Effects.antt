@@ -1,13 +1,14 @@
 -- The first six operations as one change of one task, ENTER and EXIT as one of one region, and ARM and DISARM as one of one
 -- timer, for the code's shape.
 use Prim.Native.Nat.{ℕ, _+_, _%_}
-use mathlib.Core.Bool.{cond}
+use mathlib.Core.Bool.{cond, _||_}
+use mathlib.Core.List.{List, map}
 use lib.Dec.{eqb, ltb}
 use Rattle.rules.specs.declared.Task.{Task}
 use Rattle.rules.specs.declared.Region.{Region}
 use Rattle.rules.specs.declared.Timer.{Timer}
 use Rattle.rules.specs.declared.Call.{Call}
-use Rattle.rules.specs.Numbers.{START, SIGNAL, WAIT, CLEAR, ENTER, ARM}
+use Rattle.rules.specs.Numbers.{START, STOP, END, SIGNAL, WAIT, CLEAR, ENTER, ARM}
 use Rattle.rules.specs.Tasks.{asStarted, asStopped, signalled, waited, asCleared}
 use Rattle.rules.specs.Regions.{countedDown}
 use Rattle.rules.specs.Timers.{later, asArmed, disarmed}
@@ -35,3 +36,7 @@ regionAfter c mine r =
 unfoldable pub timerAfter : Call → ℕ → Timer → Timer
 timerAfter c ticks r =
     cond (eqb (c .operation) ARM) (asArmed (c .caller) (c .b % 256) (later ticks (c .c)) r) (disarmed (c .caller) r)
+
+-- all timers after an operation on a task: STOP and END disarm those that it armed
+abbrev pub timersLeft : ℕ → ℕ → List Timer → List Timer
+timersLeft operation task timers = cond (eqb operation STOP || eqb operation END) (map (disarmed task) timers) timers

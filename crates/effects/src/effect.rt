@@ -1,5 +1,6 @@
 // What an accepted call does to one task, one region or one timer.
 use arming::armed_timer;
+use arming::disarmed_all;
 use arming::disarmed_timer;
 use clock::later_by;
 use conditions::met_by;
@@ -11,7 +12,7 @@ use rules::Timer;
 ghost use mathlib.Core.Path.{_≡_};
 ghost use Rattle.rules.specs.Tasks.{waited, asCleared};
 ghost use Rattle.rules.specs.Regions.{countedDown};
-ghost use Rattle.effects.specs.Effects.{target, taskAfter, regionAfter, timerAfter};
+ghost use Rattle.effects.specs.Effects.{target, taskAfter, regionAfter, timerAfter, timersLeft};
 
 // Which task the call changes: the one that START, STOP and SIGNAL name, else the caller.
 pub fn target_of(k: Call) -> u32
@@ -121,4 +122,14 @@ pub fn timer_after(k: Call, ticks: u32, r: Timer) -> Timer
         return armed_timer(k.caller, (k.b % 256) as u8, date);
     }
     disarmed_timer(k.caller, r)
+}
+
+// All timers after an operation on a task.
+pub fn timers_left(operation: u8, task: u8, timers: [Timer; 16]) -> [Timer; 16]
+    ensures { λ r. ⌜ r ≡ timersLeft operation task timers ⌝ }
+{
+    if (operation == 1) | (operation == 2) {
+        return disarmed_all(task, timers);
+    }
+    timers
 }

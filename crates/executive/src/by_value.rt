@@ -1,7 +1,7 @@
 // One call on a table by value.
-use crate::checked::call_checked;
-use calls::front_of;
-use calls::table_of;
+use calls::call_checked;
+use fronts::front_of;
+use fronts::table_of;
 use rules::Call;
 use rules::Done;
 use rules::Table;

@@ -1,11 +1,8 @@
 // The executive's public face: a fresh table, one call, and five queries. Every table and every call gets an answer, and each answer is the
 // one that the rules give.
 mod by_value;
-mod checked;
 
 pub use by_value::call;
-pub use checked::call_checked;
-pub use checked::front_valid;
 pub use configure::fresh;
 pub use queries::arrived;
 pub use queries::empty;

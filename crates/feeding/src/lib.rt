@@ -1,14 +1,58 @@
 // The ended lines of a piece of the input, answered one after the other.
-mod call_line;
-mod ended;
-mod turn;
-
-pub use ended::feed;
+use answer_lines::put_answer;
+use asked_lines::asked_at;
+use fed::Fed;
+use fed::answers_left;
+use fed::fed_at;
+use first_fed::opened;
+use fronts::front_of;
+use fronts::table_of;
+use line_calls::line_lent;
 use opening::Standing;
+use rules::Table;
+ghost use mathlib.Core.Path.{_≡_};
+ghost use Prim.Native.Nat.{_≤_};
+ghost use lib.ListN.{length};
+ghost use Rattle.fed.specs.Feed.{laterTold, laterOut, feedTold, pieceAnswers, over};
 
-// After the lines of a piece: the place behind the last of them, and how many bytes of answers were written.
-pub struct Fed {
-    pub standing: Standing,
-    pub next: usize,
-    pub written: usize,
+// Answers the later lines from `at` on, as many as there is room for behind the `written` bytes. The table's store stays where it is, lent to
+// each call.
+fn feed_later(t: Table, input: &[u8], mut at: usize, mut written: usize, out: &mut [u8]) -> Fed
+    requires { ⌜ written ≤ length (now out) ⌝ }
+    ensures told { λ r. ⌜ r ≡ laterTold t (now (input .entry)) at written (length (now (out .entry))) ⌝ }
+    ensures answers { λ _. ⌜ now (out .exit) ≡ laterOut t (now (input .entry)) at written (now (out .entry)) ⌝ }
+{
+    let mut element = t.element;
+    let mut criterion = t.criterion;
+    let mut f = front_of(t);
+    let mut left = answers_left(out.len(), written);
+    while 0 < left {
+        let a = asked_at(input, at);
+        let next = a.next;
+        if next == 0 {
+            return fed_at(table_of(f, element, criterion), true, at, written);
+        }
+        let h = a.heard;
+        let d = line_lent(f, h, &mut element, &mut criterion);
+        put_answer(out, written, d.answer);
+        f = d.front;
+        at = next;
+        written = written + 15;
+        left = left - 1;
+    }
+    fed_at(table_of(f, element, criterion), true, at, written)
+}
+
+// Answers as many lines as `out` has room for.
+pub fn feed(s: Standing, input: &[u8], out: &mut [u8]) -> Fed
+    ensures told { λ r. ⌜ r ≡ feedTold s (length (now (out .entry))) (now (input .entry)) ⌝ }
+    ensures answers { λ _. ⌜ now (out .exit) ≡ over (pieceAnswers s (length (now (out .entry))) (now (input .entry))) (now (out .entry)) ⌝ }
+{
+    let o = opened(s, input, out);
+    let stands = o.standing;
+    if !stands.begun {
+        return o;
+    }
+    let t = stands.table;
+    feed_later(t, input, o.next, o.written, out)
 }

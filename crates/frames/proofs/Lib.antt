@@ -1,3 +1,2 @@
--- Laws for this crate's proofs and for its callers'.
-pub mod Written
+-- Laws for this crate's proofs.
 pub mod Pairs

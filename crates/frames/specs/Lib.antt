@@ -1,3 +1,2 @@
--- What document 01 says of a line's content: the call in a line, the answer line.
-pub mod Calls
-pub mod Answers
+-- What the numbers of a call line are made of.
+pub mod Pairs

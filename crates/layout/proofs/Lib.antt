@@ -1,3 +1,4 @@
--- Laws for this crate's proofs and for its callers'.
-pub mod Parts
+-- Laws of blocks, for callers.
 pub mod Back
+pub mod Sizes
+pub mod Tables

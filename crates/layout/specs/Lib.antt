@@ -1,3 +1,3 @@
--- The table in a block of bytes: the layout, and the parts that are written together.
+-- The table in a block of bytes: the layout, and the three calls on a block.
 pub mod Layout
-pub mod Groups
+pub mod Calls

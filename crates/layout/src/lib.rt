@@ -1,12 +1,20 @@
-// Where each part of the table stands in a block of bytes, and the table read from the block and written to it: its front, which goes by
-// value, and its store, which is lent.
+// Where each part of the table stands in a block of bytes. The crates that read the table from a block and write it stand on this one.
 mod place;
 mod read;
-mod write;
 
+pub use place::ARRIVED;
+pub use place::BOUND;
+pub use place::CRITERION;
+pub use place::ELEMENT;
+pub use place::ENTRIES;
+pub use place::HOLDER;
+pub use place::LENGTH;
+pub use place::LIST;
+pub use place::OPERATOR;
+pub use place::PRIORITY;
 pub use place::SIZE;
-pub use read::front_in;
-pub use read::store_in;
+pub use place::STATE;
+pub use place::TICKS;
+pub use place::TIMER;
+pub use read::byte_at;
 pub use read::unused_zero;
-pub use write::pack_front;
-pub use write::pack_whole;

@@ -1,34 +1,12 @@
-// The table read from a block.
-use crate::place::ARRIVED;
-use crate::place::BOUND;
-use crate::place::CRITERION;
-use crate::place::ELEMENT;
-use crate::place::ENTRIES;
-use crate::place::HOLDER;
-use crate::place::LENGTH;
-use crate::place::LIST;
-use crate::place::OPERATOR;
-use crate::place::PRIORITY;
-use crate::place::STATE;
-use crate::place::TICKS;
+// Single bytes of a block, and those that are not used.
 use crate::place::TIMER;
-use calls::Front;
-use reading::take_bytes;
-use reading::take_halves;
-use reading::take_words;
-use reading::timers_at;
-use rules::QUEUES;
-use rules::REGIONS;
-use rules::TASKS;
 use rules::TIMERS;
 ghost use mathlib.Core.Path.{_≡_};
 ghost use lib.ListN.{getD};
-ghost use Rattle.packing.specs.Bytes.{taken};
-ghost use Rattle.layout.specs.Layout.{elementPlace, criterionPlace, unusedZero};
-ghost use Rattle.layout.specs.Groups.{frontTaken};
+ghost use Rattle.layout.specs.Layout.{unusedZero};
 
 // The byte at a place, 0 past the end.
-fn byte_at(block: &[u8], at: usize) -> u8
+pub fn byte_at(block: &[u8], at: usize) -> u8
     ensures { λ r. ⌜ r ≡ getD (now (block .entry)) at 0 ⌝ }
 {
     if at < block.len() { block[at] } else { 0 }
@@ -45,62 +23,4 @@ pub fn unused_zero(block: &[u8]) -> bool
         ok = ok & (b == 0);
     }
     ok
-}
-
-// All but the store. A part that the block has no room for is all 0.
-pub fn front_in(block: &[u8]) -> Front
-    ensures { λ r. ⌜ r ≡ frontTaken (now (block .entry)) ⌝ }
-{
-    let mut priority = [0u8; TASKS];
-    take_bytes(block, PRIORITY, &mut priority);
-    let mut state = [0u8; TASKS];
-    take_bytes(block, STATE, &mut state);
-    let mut arrived = [0u16; TASKS];
-    take_halves(block, ARRIVED, &mut arrived);
-    let mut list = [0u16; TASKS];
-    take_halves(block, LIST, &mut list);
-    let mut operator = [0u8; TASKS];
-    take_bytes(block, OPERATOR, &mut operator);
-    let mut holder = [0u8; REGIONS];
-    take_bytes(block, HOLDER, &mut holder);
-    let mut entries = [0u8; REGIONS];
-    take_bytes(block, ENTRIES, &mut entries);
-    let mut bound = [0u8; QUEUES];
-    take_bytes(block, BOUND, &mut bound);
-    let mut lengths = [0u8; QUEUES];
-    take_bytes(block, LENGTH, &mut lengths);
-    let mut ticks = [0u32; 1];
-    take_words(block, TICKS, &mut ticks);
-    let timers = timers_at(block, TIMER);
-    let tasks = byte_at(block, 0);
-    let regions = byte_at(block, 1);
-    let queues = byte_at(block, 2);
-    let elected = byte_at(block, 3);
-    let counter = ticks[0];
-    Front {
-        tasks: tasks,
-        regions: regions,
-        queues: queues,
-        elected: elected,
-        priority: priority,
-        state: state,
-        arrived: arrived,
-        list: list,
-        operator: operator,
-        holder: holder,
-        entries: entries,
-        bound: bound,
-        length: lengths,
-        ticks: counter,
-        timers: timers,
-    }
-}
-
-// Fills the two arrays with the places of the queues; leaves one as it is that the block has no room for.
-pub fn store_in(block: &[u8], element: &mut [u32], criterion: &mut [u8])
-    ensures elements { λ _. ⌜ now (element .exit) ≡ taken 4 elementPlace (now (block .entry)) (now (element .entry)) ⌝ }
-    ensures criteria { λ _. ⌜ now (criterion .exit) ≡ taken 1 criterionPlace (now (block .entry)) (now (criterion .entry)) ⌝ }
-{
-    take_words(block, ELEMENT, element);
-    take_bytes(block, CRITERION, criterion);
 }

@@ -1,2 +1,2 @@
 -- What document 01 says of how a session begins.
-pub mod First
+pub mod Start

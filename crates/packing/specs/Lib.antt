@@ -1,3 +1,4 @@
--- Numbers in bytes, and the parts of a lent block of bytes.
+-- Numbers in bytes, the parts of a lent block of bytes, and an answer as one number.
 pub mod Bytes
 pub mod Timers
+pub mod Answers

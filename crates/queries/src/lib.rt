@@ -1,22 +1,18 @@
-// The five queries: each answers and changes nothing.
+// The three queries about tasks, beside those about queues: each answers and changes nothing.
 use conditions::met_by;
-use lookups::entry_at;
 use lookups::events_at;
 use lookups::state_at;
+pub use queue_queries::empty;
+pub use queue_queries::full;
 use replies::arrived_status;
 use replies::object_status;
+use replies::one_if;
 use replies::reply_of;
 use rules::Answer;
 use rules::Table;
 use whole_table::is_valid;
 ghost use mathlib.Core.Path.{_≡_};
-ghost use Rattle.rules.specs.Queries.{oneIf, arrivedQuery, emptyQuery, fullQuery, priorityQuery, stateQuery};
-
-fn one_if(b: bool) -> u32
-    ensures { λ r. ⌜ r ≡ oneIf b ⌝ }
-{
-    if b { 1 } else { 0 }
-}
+ghost use Rattle.rules.specs.Queries.{arrivedQuery, priorityQuery, stateQuery};
 
 // ARRIVED: 1 if the condition on the caller's events is met.
 pub fn arrived(t: Table, caller: u8, list: u32, operator: u32) -> Answer
@@ -27,27 +23,6 @@ pub fn arrived(t: Table, caller: u8, list: u32, operator: u32) -> Answer
     let events = events_at(&t.arrived, caller);
     let met = met_by((operator % 256) as u8, (list % 65536) as u16, events);
     reply_of(status, one_if(met), t.elected)
-}
-
-// EMPTY: 1 if the queue holds nothing.
-pub fn empty(t: Table, queue: u32) -> Answer
-    ensures { λ r. ⌜ r ≡ emptyQuery t queue ⌝ }
-{
-    let ok = is_valid(t);
-    let status = object_status(ok, t.queues, queue);
-    let held = entry_at(&t.length, queue);
-    reply_of(status, one_if(held == 0), t.elected)
-}
-
-// FULL: 1 if the queue is at its bound.
-pub fn full(t: Table, queue: u32) -> Answer
-    ensures { λ r. ⌜ r ≡ fullQuery t queue ⌝ }
-{
-    let ok = is_valid(t);
-    let status = object_status(ok, t.queues, queue);
-    let most = entry_at(&t.bound, queue);
-    let n = entry_at(&t.length, queue);
-    reply_of(status, one_if(most <= n), t.elected)
 }
 
 // PRIORITY: the task's configured number.

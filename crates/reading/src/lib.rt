@@ -1,9 +1,6 @@
-// Reads the parts of a block of bytes: numbers of one, two and four bytes, and timers. Each loop cuts the bytes of one number out of the
-// block, where the compiler can see that they lie side by side, and makes one copy of the whole loop.
+// Reads numbers of one and two bytes out of a block of bytes. Each loop cuts the bytes of one number out of the block, where the compiler can
+// see that they lie side by side, and makes one copy of the whole loop.
 mod numbers;
-mod timers;
 
 pub use numbers::take_bytes;
 pub use numbers::take_halves;
-pub use numbers::take_words;
-pub use timers::timers_at;

@@ -18,13 +18,6 @@ fn half_in(p: &[u8]) -> u16
     (p[0] as u16) + (p[1] as u16) * 256
 }
 
-pub(crate) fn word_in(p: &[u8]) -> u32
-    requires { ⌜ length (now p) ≡ 4 ⌝ }
-    ensures { λ r. ⌜ r ≡ number (now (p .entry)) ⌝ }
-{
-    (p[0] as u32) + (p[1] as u32) * 256 + (p[2] as u32) * 65536 + (p[3] as u32) * 16777216
-}
-
 // Fills `into` with the bytes from `at` on; leaves it as it is where there are fewer.
 pub fn take_bytes(block: &[u8], at: usize, into: &mut [u8])
     ensures { λ _. ⌜ now (into .exit) ≡ taken 1 at (now (block .entry)) (now (into .entry)) ⌝ }
@@ -52,20 +45,5 @@ pub fn take_halves(block: &[u8], at: usize, into: &mut [u16])
         let from = at + 2 * i;
         let to = from + 2;
         into[i] = half_in(&block[from..to]);
-    }
-}
-
-// The same for numbers of four bytes.
-pub fn take_words(block: &[u8], at: usize, into: &mut [u32])
-    ensures { λ _. ⌜ now (into .exit) ≡ taken 4 at (now (block .entry)) (now (into .entry)) ⌝ }
-{
-    let n = into.len();
-    if !has_room(block.len(), at, 4, n) {
-        return;
-    }
-    for i in 0..n {
-        let from = at + 4 * i;
-        let to = from + 4;
-        into[i] = word_in(&block[from..to]);
     }
 }

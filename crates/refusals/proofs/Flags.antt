@@ -1,41 +1,22 @@
--- Tests by operation: the code's flags, and the definitions' lists with an entry for each operation.
-use Prim.Native.Nat.{ℕ, zero, suc, _<_, _≤_}
-use mathlib.Core.Path.{_≡_, refl, sym, _∙_}
+-- The reasons from 14 on, by the kind of the call: those that the kind can't meet do not apply.
+use Prim.Native.Nat.{ℕ, _<_, _≤_}
+use mathlib.Core.Path.{_≡_, refl, _∙_}
 use mathlib.Core.Logic.{_≢_}
-use mathlib.Core.Bool.{Bool, true, false, not, _&&_, _||_, or-false}
-use mathlib.Core.List.{List, [], _∷_}
+use mathlib.Core.Bool.{Bool, true, false, _&&_}
+use mathlib.Core.List.{List}
 use native.Mathlib.Omega.{arith}
 use lib.Dec.{eqb, ltb}
-use lib.ListN.{getD, length, List·getD-eq-default}
+use lib.ListN.{List·getD-eq-default}
 use borrow.Author.Tests.{eqb-true, eqb-false, ne-eqb, ltb-true, ltb-false}
 use Rattle.rules.specs.declared.Timer.{Timer}
 use Rattle.rules.specs.declared.Call.{Call}
-use Rattle.rules.specs.Words.{byOperation}
 use Rattle.rules.specs.Numbers.{WAIT, ENTER, SEND, RETRIEVE, ARM, DISARM, TICK}
 use Rattle.rules.specs.Words.{first}
 use Rattle.rules.specs.Refusals.{othersAt, wrongState, leaves, missing}
 use Rattle.rules.proofs.Effects.{upto}
-use Rattle.call_numbers.proofs.Tests.{none-of}
-use Rattle.refusals.specs.Late.{lacking, wrongTask, taskFlags, queueFlags, timerFlags, lateFlags}
-
--- 15 of the calls about tasks: by the states of the tasks that a and b name
-wrong : (n : ℕ) (a b : Bool)
-    → ((eqb n 0 && not a) || ((eqb n 1 && a) || (eqb n 3 && b))) ≡ byOperation false n (not a ∷ a ∷ false ∷ b ∷ [])
-wrong zero a b = or-false (not a)
-wrong (suc zero) a b = or-false a
-wrong (suc (suc zero)) a b = refl
-wrong (suc (suc (suc zero))) a b = refl
-wrong (suc (suc (suc (suc n)))) a b =
-    let m = suc (suc (suc (suc n))) in
-    rw (none-of m 0 (omega arith), none-of m 1 (omega arith), none-of m 3 (omega arith)) refl
-
-pub wrong-is : (states : List ℕ) (c : Call) (x y : ℕ) → x ≡ getD states (c .a) 0 → y ≡ getD states (c .b) 0
-    → ((eqb (c .operation) 0 && not (eqb x 0)) || ((eqb (c .operation) 1 && eqb x 0) || (eqb (c .operation) 3 && eqb y 0)))
-    ≡ wrongTask states c
-unfolding wrongTask
-wrong-is states c x y p q = wrong (c .operation) (eqb x 0) (eqb y 0) ∙ rw (p, q) refl
-
--- ---- the reasons from 14 on, by the kind of the call
+use Rattle.refusals.specs.Late.{timerFlags, lateFlags}
+use Rattle.task_reasons.specs.Flags.{wrongTask, taskFlags}
+use Rattle.queue_reasons.specs.Flags.{lacking, queueFlags}
 
 -- before ARM, 15 is about tasks
 wrong-below : (states : List ℕ) (timers : List Timer) (c : Call) → c .operation < ARM → wrongState states timers c ≡ wrongTask states c

@@ -22,7 +22,8 @@ use Rattle.rules.proofs.Queues.{queue-length}
 use Rattle.rules.proofs.Validity.{Parts, parts-of, sound}
 use Rattle.rules.proofs.Refusals.{first-append}
 use Rattle.retrieving.proofs.Places.{none-is}
-use Rattle.refusals.specs.Late.{lacking, lateFlags, early, refusalBy}
+use Rattle.queue_reasons.specs.Flags.{lacking}
+use Rattle.refusals.specs.Late.{lateFlags, early, refusalBy}
 
 abbrev pub flagsOf : Table → Call → List Reason
 flagsOf t c = lateFlags (t .tasks) (t .regions) (t .queues) (t .state) (t .holder) (t .entries) (t .bound) (t .length) (t .criterion) (t .timers) c

@@ -1,46 +1,16 @@
 -- The reasons as the code tests them over lent arrays: of a valid table those from 14 on are the rules' own.
-use Prim.Native.Nat.{ℕ, _+_, _*_}
-use mathlib.Core.Bool.{Bool, false, cond, not, _&&_}
+use Prim.Native.Nat.{ℕ}
+use mathlib.Core.Bool.{Bool, cond, not, _&&_}
 use mathlib.Core.List.{List, [], _∷_}
 use lib.Dec.{eqb, ltb, leb}
 use lib.ListN.{getD}
 use Rattle.rules.specs.declared.Timer.{Timer}
 use Rattle.rules.specs.declared.Call.{Call}
-use Rattle.rules.specs.Numbers.{queueRoom, places, WAIT, ENTER, SEND, RETRIEVE, TICK}
-use Rattle.rules.specs.Words.{isZero, byOperation, Reason, when, first}
+use Rattle.rules.specs.Numbers.{WAIT, ENTER, SEND, TICK}
+use Rattle.rules.specs.Words.{isZero, Reason, when, first}
 use Rattle.rules.specs.Regions.{held}
-use Rattle.rules.specs.Refusals.{outsideBarred, notElected, tickByTask, missing, badOperator, stoppedAt, othersAt, wrongState, leaves, entriesFull}
-use Rattle.retrieving.specs.Places.{placeIn}
-
--- 18 by places of the store: the place found is the end of the queue
-unfoldable pub lacking : List ℕ → List ℕ → Call → Bool
-lacking lengths criterion c =
-    cond (eqb (c .operation) RETRIEVE && ltb (c .a) queueRoom)
-    (leb (c .a * places + getD lengths (c .a) 0)
-    (placeIn (c .a * places) (c .a * places + getD lengths (c .a) 0) (c .c) criterion))
-    false
-
--- 15 of a call about tasks: START, STOP, END, SIGNAL
-unfoldable pub wrongTask : List ℕ → Call → Bool
-wrongTask states c =
-    byOperation false (c .operation)
-    (not (stoppedAt states (c .a)) ∷ stoppedAt states (c .a) ∷ false ∷ stoppedAt states (c .b) ∷ [])
-
--- those of a call about tasks or regions, once 14 is ruled out
-unfoldable pub taskFlags : List ℕ → List ℕ → List ℕ → Call → List Reason
-taskFlags state holder entries c =
-    when 19 (eqb (c .operation) WAIT && badOperator (c .b))
-    ∷ when 15 (wrongTask state c)
-    ∷ when 16 (leaves c && not (isZero (held holder)))
-    ∷ when 22 (eqb (c .operation) ENTER && entriesFull entries (c .a))
-    ∷ []
-
--- those of SEND and RETRIEVE
-unfoldable pub queueFlags : List ℕ → List ℕ → List ℕ → Call → List Reason
-queueFlags bound lengths criterion c =
-    when 17 (eqb (c .operation) SEND && leb (getD bound (c .a) 0) (getD lengths (c .a) 0))
-    ∷ when 18 (lacking lengths criterion c)
-    ∷ []
+use Rattle.rules.specs.Refusals.{outsideBarred, notElected, tickByTask, missing, badOperator, othersAt, wrongState, leaves, entriesFull}
+use Rattle.queue_reasons.specs.Flags.{lacking}
 
 -- that of ARM and DISARM; TICK and whatever comes behind it have none
 unfoldable pub timerFlags : List Timer → Call → List Reason

@@ -1,43 +1,16 @@
--- A log of calls on a table, one after the other, each answer in its place.
-use Prim.Native.Nat.{ℕ, zero, suc, _+_, _*_, _/_, _%_, min}
-use mathlib.Core.Bool.{Bool, cond, _&&_}
+-- A log of calls on a block: the block after them, their answers, and how many they are.
+use Prim.Native.Nat.{ℕ}
+use mathlib.Core.Bool.{cond, _&&_}
 use mathlib.Core.List.{List}
 use lib.Dec.{eqb}
-use lib.ListN.{getD, length, set}
-use Rattle.rules.specs.declared.Table.{Table}
-use Rattle.rules.specs.declared.Call.{Call}
-use Rattle.rules.specs.Step.{step}
+use lib.ListN.{length}
 use Rattle.layout.specs.Layout.{blockSize, unpacked, packed, unusedZero}
-use Rattle.block.specs.Calls.{answerNumber, callOf}
-
--- call i of a log, five numbers each; caller and operation have one byte
-unfoldable pub callAt : List ℕ → ℕ → Call
-callAt log i =
-    callOf (getD log (5 * i) 0 % 256) (getD log (5 * i + 1) 0 % 256) (getD log (5 * i + 2) 0) (getD log (5 * i + 3) 0) (getD log (5 * i + 4) 0)
-
--- the table after some calls, and their answers over what stood there
-pub record Replayed : Type 0 where
-  pub table : Table
-  pub answers : List ℕ
-
--- call i more
-abbrev pub once : Replayed → Call → ℕ → Replayed
-once r c i = record { table = step (r .table) c .table; answers = set (r .answers) i (answerNumber (step (r .table) c .answer)) }
-
--- the first n calls
-unfoldable pub replayed : Table → List ℕ → List ℕ → ℕ → Replayed
-replayed t log old zero = record { table = t; answers = old }
-replayed t log old (suc n) = once (replayed t log old n) (callAt log n) n
-
--- ---- on a block
+use Rattle.calls.specs.Log.{Replayed, laps, logged}
 
 pub record Outcome : Type 0 where
   pub block : List ℕ
   pub answers : List ℕ
   pub count : ℕ
-
-abbrev pub laps : List ℕ → List ℕ → ℕ
-laps log answers = min (length log / 5) (length answers)
 
 abbrev pub outcome : Replayed → ℕ → Outcome
 outcome r n = record { block = packed (r .table); answers = r .answers; count = n }
@@ -45,5 +18,5 @@ outcome r n = record { block = packed (r .table); answers = r .answers; count = 
 unfoldable pub replayBlock : List ℕ → List ℕ → List ℕ → Outcome
 replayBlock block log answers =
     cond (eqb (length block) blockSize && unusedZero block)
-    (outcome (replayed (unpacked block) log answers (laps log answers)) (laps log answers))
+    (outcome (logged (unpacked block) log answers) (laps log answers))
     (record { block = block; answers = answers; count = 0 })

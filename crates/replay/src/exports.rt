@@ -1,20 +1,13 @@
 // A replay, for C or Rust to call with the block that holds the table.
-use crate::run::run_lent;
+use calls::run_log;
+use front_reading::front_in;
 use layout::SIZE;
-use layout::front_in;
-use layout::pack_whole;
-use layout::store_in;
 use layout::unused_zero;
 use rules::STORE;
+use store_reading::store_in;
+use table_writing::pack_whole;
 ghost use mathlib.Core.Path.{_≡_};
-ghost use Prim.Native.Nat.{min};
 ghost use Rattle.replay.specs.Replay.{replayBlock};
-
-fn lesser(x: usize, y: usize) -> usize
-    ensures { λ r. ⌜ r ≡ min x y ⌝ }
-{
-    if x < y { x } else { y }
-}
 
 // Makes the calls of the log, five numbers each, for as many as there is room for an answer, and tells how many. A block of another size,
 // or with an unused byte that is not 0, is not touched. With `each` other than 0 the table is checked again before every call.
@@ -35,19 +28,17 @@ pub extern "C" fn tankwesho_replay(
     if !unused_zero(block) {
         return 0;
     }
-    let n = lesser(log.len() / 5, answers.len());
     let mut element = [0u32; STORE];
     let mut criterion = [0u8; STORE];
     store_in(block, &mut element, &mut criterion);
-    let f = run_lent(
+    let r = run_log(
         front_in(block),
-        n,
         each != 0,
         log,
         &mut element,
         &mut criterion,
         answers,
     );
-    pack_whole(f, &element, &criterion, block);
-    n as u64
+    pack_whole(r.front, &element, &criterion, block);
+    r.count as u64
 }

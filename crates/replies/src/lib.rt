@@ -7,8 +7,16 @@ ghost use mathlib.Core.Bool.{not, _||_};
 ghost use mathlib.Core.List.{[], _∷_};
 ghost use lib.Dec.{eqb};
 ghost use Rattle.rules.specs.Words.{when, first};
+ghost use Rattle.rules.specs.Queries.{oneIf};
 ghost use Rattle.rules.specs.Refusals.{absent, badList, badOperator};
 ghost use Rattle.replies.specs.Replies.{replyBy};
+
+// The value of a query that asks whether something is so.
+pub fn one_if(b: bool) -> u32
+    ensures { λ r. ⌜ r ≡ oneIf b ⌝ }
+{
+    if b { 1 } else { 0 }
+}
 
 // A refused query's value is 0.
 pub fn reply_of(status: u8, value: u32, elected: u8) -> Answer

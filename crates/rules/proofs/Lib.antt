@@ -4,16 +4,13 @@ pub mod Counts
 pub mod Lists
 pub mod Bits
 pub mod Events
-pub mod Tasks
 pub mod Election
-pub mod Regions
 pub mod Store
 pub mod Queues
 pub mod Retrieve
 pub mod Validity
 pub mod Refusals
 pub mod Effects
-pub mod Columns
 pub mod Entries
 pub mod Clock
 pub mod Quick

@@ -8,17 +8,14 @@ use native.Mathlib.Numerals.{add-one}
 use lib.Dec.{eqb, leb}
 use lib.ListN.{length, take, drop, getD, set, length-take, length-drop}
 use lib.Seq.{take-suc, take-all, take-take, take-add, drop-at, drop-cons, length-take-le, set-at, getD-append-add, getD-drop}
-use borrow.Author.Tests.{le-leb, lt-leb, leb-true, leb-false}
-use Rattle.frames.specs.Answers.{answerLine, placed}
-use Rattle.frames.proofs.Written.{answer-length}
+use borrow.Author.Tests.{leb-true, leb-false}
 use Rattle.opening.specs.declared.Standing.{Standing}
-use Rattle.feeding.specs.declared.Fed.{Fed}
+use Rattle.fed.specs.declared.Fed.{Fed}
 use Rattle.session.specs.declared.Held.{Held}
-use Rattle.bench_line.specs.Steps.{malformed}
-use Rattle.feeding.specs.Lines.{onto, cut, stood}
-use Rattle.feeding.specs.Feed.{fitting, taken, over, feedTold, pieceAnswers}
-use Rattle.session.specs.Run.{ending, kept}
-use Rattle.session.specs.Pieces.{pieceLeft, pieceTold, endingLength}
+use Rattle.fed.specs.Lines.{onto, cut, stood}
+use Rattle.fed.specs.Feed.{fitting, taken, over, feedTold, pieceAnswers}
+use Rattle.session.specs.Run.{kept}
+use Rattle.session.specs.Pieces.{pieceLeft, pieceTold}
 
 -- ---- a part moved to the front
 
@@ -53,7 +50,7 @@ take-lesser end l = go (leb end (length l)) refl
         rw (same, take-all (length l) l (omega arith), take-all end l (omega arith))
 
 -- the lines and what is left are as long as the bytes that they were cut from
-cut-fits : (bs : List ℕ) → taken (cut bs .lines) + length (cut bs .rest) ≡ length bs
+pub cut-fits : (bs : List ℕ) → taken (cut bs .lines) + length (cut bs .rest) ≡ length bs
 unfolding cut taken
 cut-fits [] = refl
 cut-fits (b ∷ bs) = go (eqb b 10) refl (cut-fits bs)
@@ -145,56 +142,6 @@ module _ (s : Standing) (room end : ℕ) (l : List ℕ) (to : ℕ) (t : to ≡ m
         let wrote : f .written ≡ 15 * length (fitting room (take end l)) = ap (λ x. x .written) told in
         rw (stands, wrote, many)
 
--- ---- the end
-
-pub ending-none : (s : Standing) (rest out : List ℕ) → length rest ≡ 0 → (0 ≡ endingLength s rest (length out)) × (out ≡ placed 0 (ending s rest) out)
-unfolding endingLength ending placed
-ending-none s [] out h = (simp (le-leb 0 (length out) (omega arith)), simp (le-leb 0 (length out) (omega arith)))
-ending-none s (b ∷ bs) out h = absurd (omega arith)
-
-pub ending-no-room : (s : Standing) (rest out : List ℕ) → (length rest ≡ 0 → ⊥) → length out < 15
-    → (0 ≡ endingLength s rest (length out)) × (out ≡ placed 0 (ending s rest) out)
-unfolding endingLength ending placed
-ending-no-room s [] out n h = absurd (n refl)
-ending-no-room s (b ∷ bs) out n h = (simp (answer-length, lt-leb 15 (length out) h), simp (answer-length, lt-leb 15 (length out) h))
-
-pub ending-some : (s : Standing) (rest out : List ℕ) → (length rest ≡ 0 → ⊥) → 15 ≤ length out
-    → (15 ≡ endingLength s rest (length out)) × (placed 0 (answerLine (malformed (s .table) .answer)) out ≡ placed 0 (ending s rest) out)
-unfolding endingLength ending
-ending-some s [] out n h = absurd (n refl)
-ending-some s (b ∷ bs) out n h = (simp (answer-length, le-leb 15 (length out) h), refl)
-
--- ---- room for an answer to every byte is room for all lines
-
-cut-behind : (bs : List ℕ) → drop (taken (cut bs .lines)) bs ≡ cut bs .rest
-unfolding cut taken
-cut-behind [] = refl
-cut-behind (b ∷ bs) = go (eqb b 10) refl (cut-behind bs)
-  where
-    more : (lines : List (List ℕ)) (rest : List ℕ) → drop (taken lines) bs ≡ rest → drop (taken (onto b lines rest .lines)) (b ∷ bs) ≡ onto b lines rest .rest
-    more [] rest h = ap (λ xs. b ∷ xs) h
-    more (line ∷ lines) rest h =
-        let one : suc (suc (length line)) + taken lines ≡ suc (suc (length line) + taken lines) = omega arith in
-        rw one h
-
-    go : (x : Bool) → eqb b 10 ≡ x → drop (taken (cut bs .lines)) bs ≡ cut bs .rest → drop (taken (cut (b ∷ bs) .lines)) (b ∷ bs) ≡ cut (b ∷ bs) .rest
-    go true e ih = let one : suc 0 + taken (cut bs .lines) ≡ suc (taken (cut bs .lines)) = omega arith in rw (e, one) ih
-    go false e ih = rw e (more (cut bs .lines) (cut bs .rest) ih)
-
-lines-few : (lines : List (List ℕ)) → length lines ≤ taken lines
-unfolding taken
-lines-few [] = omega arith
-lines-few (line ∷ lines) = let ih = lines-few lines in omega arith
-
-module _ (room : ℕ) (input : List ℕ) (enough : 15 * length input ≤ room) where
-  pub fitting-all : fitting room input ≡ cut input .lines
-  unfolding fitting
-  fitting-all = take-all (room / 15) (cut input .lines) (let few = lines-few (cut input .lines) in let fits = cut-fits input in omega arith)
-
-  pub left-all : pieceLeft room input ≡ kept (cut input .rest)
-  unfolding pieceLeft
-  left-all = rw (fitting-all, cut-behind input)
-
 -- ---- how much is held and written, as a caller asks
 
 module _ (s : Standing) (room : ℕ) (input : List ℕ) (p : Held) (e : p ≡ pieceTold s room input) where
@@ -205,11 +152,3 @@ module _ (s : Standing) (room : ℕ) (input : List ℕ) (p : Held) (e : p ≡ pi
   pub written-within : p .written ≤ room
   unfolding pieceTold fitting
   written-within = rw (e, length-take) (omega arith)
-
-pub ending-within : (s : Standing) (rest : List ℕ) (room r : ℕ) → r ≡ endingLength s rest room → r ≤ room
-unfolding endingLength
-ending-within s rest room r e = rw e (go (leb (length (ending s rest)) room) refl)
-  where
-    go : (b : Bool) → leb (length (ending s rest)) room ≡ b → endingLength s rest room ≤ room
-    go true h = rw h (leb-true (length (ending s rest)) room h)
-    go false h = rw h (omega arith)

@@ -3,16 +3,10 @@ use Prim.Native.Nat.{ℕ, suc}
 use mathlib.Core.List.{List, [], _∷_, _++_}
 use lib.ListN.{take}
 use Rattle.lines.specs.Ends.{longest}
-use Rattle.frames.specs.Answers.{answerLine}
 use Rattle.opening.specs.declared.Standing.{Standing}
-use Rattle.opening.specs.First.{start}
-use Rattle.bench_line.specs.Steps.{malformed}
-use Rattle.feeding.specs.Lines.{cut, answered, stood}
-
--- a line "without its line feed gets 21"; no byte is no line: "Empty input writes nothing"
-unfoldable pub ending : Standing → List ℕ → List ℕ
-ending s [] = []
-ending s (b ∷ bs) = answerLine (malformed (s .table) .answer)
+use Rattle.opening.specs.Start.{start}
+use Rattle.endings.specs.Ending.{ending}
+use Rattle.fed.specs.Lines.{cut, answered, stood}
 
 unfoldable pub runFrom : Standing → List ℕ → List ℕ
 runFrom s input = answered s (cut input .lines) ++ ending (stood s (cut input .lines)) (cut input .rest)
@@ -20,7 +14,7 @@ runFrom s input = answered s (cut input .lines) ++ ending (stood s (cut input .l
 abbrev pub run : List ℕ → List ℕ
 run input = runFrom start input
 
--- ---- in parts, which writes the same (proofs/Streams.antt): what a part leaves unended stands in front of the next. Of that, one byte
+-- ---- in parts, which writes the same (`parts-agree` of session_theorems): what a part leaves unended stands in front of the next. Of that, one byte
 -- more than a line may have is enough, since it already tells that the line is too long.
 
 unfoldable pub kept : List ℕ → List ℕ

@@ -1,16 +1,12 @@
-// A run over the input piece by piece: each piece, and the end.
+// A run over the input piece by piece.
 use crate::Held;
-use bench_line::malformed_answer;
 use feeding::feed;
-use frames::put_answer;
 use opening::Standing;
 ghost use mathlib.Core.Path.{_≡_};
 ghost use Prim.Native.Nat.{_+_, _≤_, min};
 ghost use lib.ListN.{length, take, drop};
-ghost use Rattle.frames.specs.Answers.{placed};
-ghost use Rattle.feeding.specs.Feed.{pieceAnswers, over};
-ghost use Rattle.session.specs.Run.{ending};
-ghost use Rattle.session.specs.Pieces.{pieceTold, pieceLeft, endingLength};
+ghost use Rattle.fed.specs.Feed.{pieceAnswers, over};
+ghost use Rattle.session.specs.Pieces.{pieceTold, pieceLeft};
 
 fn lesser(x: usize, y: usize) -> usize
     ensures { λ r. ⌜ r ≡ min x y ⌝ }
@@ -45,20 +41,4 @@ pub fn piece(s: Standing, buffer: &mut [u8], end: usize, out: &mut [u8]) -> Held
         held: n,
         written: f.written,
     }
-}
-
-// The end of the input: bytes that no line feed ended get one answer. Returns how many bytes were written.
-pub fn finish(s: Standing, rest: &[u8], out: &mut [u8]) -> usize
-    ensures told { λ r. ⌜ r ≡ endingLength s (now (rest .entry)) (length (now (out .entry))) ⌝ }
-    ensures written { λ _. ⌜ now (out .exit) ≡ placed 0 (ending s (now (rest .entry))) (now (out .entry)) ⌝ }
-{
-    if rest.len() == 0 {
-        return 0;
-    }
-    if out.len() < 15 {
-        return 0;
-    }
-    let t = s.table;
-    put_answer(out, 0, malformed_answer(t.tasks, t.elected));
-    15
 }

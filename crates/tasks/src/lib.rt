@@ -1,22 +1,11 @@
 // The check of the task columns: every task is right, and past the count it is a stopped one of priority 0, which is all 0.
-use conditions::met_by;
+use task_rule::row_fits;
 ghost use mathlib.Core.Path.{_≡_};
 ghost use mathlib.Core.Bool.{_&&_};
 ghost use lib.ListN.{length, getD};
 ghost use Rattle.rules.specs.Numbers.{taskRoom};
 ghost use Rattle.rules.specs.Words.{isZero, past};
-ghost use Rattle.rules.proofs.Validity.{rowRight, tasksRight};
-
-// One task of those below the count; its priority is right by its type. There is no branch, so that the loop over all tasks vectorises.
-fn row_fits(priority: u8, state: u8, arrived: u16, list: u16, operator: u8) -> bool
-    ensures { λ r. ⌜ r ≡ rowRight priority state arrived list operator ⌝ }
-{
-    let met = met_by(operator, list, arrived);
-    let idle = (list == 0) & (operator == 0);
-    let stopped = (state == 0) & (arrived == 0);
-    let waiting = (state == 2) & ((list != 0) & ((operator < 2) & !met));
-    (idle & (stopped | (state == 1))) | waiting
-}
+ghost use Rattle.rules.proofs.Validity.{tasksRight};
 
 // Past the count priority and state are 0. What else is 0 there is so of every stopped task.
 fn rest_zero<'a>(tasks: u8, priority: &'a [u8; 32], state: &'a [u8; 32]) -> bool

@@ -1,35 +1,13 @@
-// The check of the timers: an armed one is a task's that isn't stopped and has its date ahead; an idle one is all 0.
-use clock::ahead_of;
+// The check of the timers: each of the sixteen fits.
 use rules::TASKS;
 use rules::TIMERS;
 use rules::Timer;
+use timer_rule::timer_fits;
 ghost use Prim.Native.Nat.{_%_, min};
 ghost use mathlib.Core.Path.{_≡_};
 ghost use lib.ListN.{length, getD};
 ghost use Rattle.rules.specs.Numbers.{taskRoom};
 ghost use Rattle.rules.specs.Validity.{timersRight};
-ghost use Rattle.timers.specs.Fits.{timerFits};
-
-// One timer by its fields, where `state` was read at its owner's number modulo 32. Every test has a way out: an idle timer is done after its
-// four zeros, and which timers are armed changes too seldom for a processor to guess it wrong.
-fn timer_fits(owners: u8, ticks: u32, armed: u8, owner: u8, event: u8, date: u32, state: u8) -> bool
-    ensures { λ b. ⌜ b ≡ timerFits owners state ticks (record { armed = armed; owner = owner; event = event; date = date }) ⌝ }
-{
-    if armed != 1 {
-        return (armed == 0) & ((owner == 0) & ((event == 0) & (date == 0)));
-    }
-    if owners <= owner {
-        return false;
-    }
-    if state == 0 {
-        return false;
-    }
-    if 16 <= event {
-        return false;
-    }
-    let left = ahead_of(date, ticks);
-    (0 < left) & (left <= 2147483647)
-}
 
 // An owner lies below the count and within the columns.
 fn owners_of(tasks: u8) -> u8

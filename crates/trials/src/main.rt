@@ -1,20 +1,10 @@
 // The executive on document 01's unmarked examples and on bad input: the file `stdin` lists the trials, a line for each, and the file
 // `stdout` has their answers, worked out by hand. docs/TRIALS.md says how each follows from document 01.
-mod configurations;
-mod damage;
-mod names;
-mod questions;
-mod rows;
-mod same;
-mod say;
-mod scenes;
-mod script;
-mod trial;
-mod words;
+use trial_list::play;
 
 // The list is read at once, and so can have 65,536 bytes.
 fn main() {
     let mut text = io::large_buffer();
     let n = io::read_full(0, &mut text);
-    script::play(&text[..n]);
+    play(&text[..n]);
 }

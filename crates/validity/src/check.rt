@@ -1,13 +1,13 @@
 // The validity check over a table whose arrays are lent: every rule of the list, by subject.
-use super::counts::counts_right;
+use criteria_range::criteria_right;
 use election::elected_by;
-use queues::criteria_right;
+use entry_counts::entries_right;
+use holders::holder_right;
+use holders::joined_by;
+use holders::regions_right;
 use queues::queues_right;
-use regions::entries_right;
-use regions::holder_right;
-use regions::joined_by;
-use regions::regions_right;
 use rules::Timer;
+use table_counts::counts_right;
 use tasks::tasks_right;
 use timers::timers_right;
 ghost use mathlib.Core.Path.{_≡_};

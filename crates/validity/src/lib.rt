@@ -1,6 +1,5 @@
-// The validity check over a table whose arrays are lent, and the counts of a table or a configuration.
+// The validity check over a table whose arrays are lent.
 mod check;
-mod counts;
 
 pub use check::valid_of;
-pub use counts::counts_right;
+pub use table_counts::counts_right;

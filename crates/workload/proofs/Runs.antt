@@ -17,9 +17,9 @@ use Rattle.rules.specs.Validity.{countsInRange}
 use Rattle.rules.specs.Fresh.{configurationInRange, freshTable, fresh}
 use Rattle.rules.specs.Step.{step}
 use Rattle.theorems.proofs.Kept.{store-kept}
-use Rattle.calls.specs.declared.Front.{Front}
-use Rattle.calls.specs.declared.FrontDone.{FrontDone}
-use Rattle.calls.specs.Fronts.{whole, frontOf, frontDone}
+use Rattle.fronts.specs.declared.Front.{Front}
+use Rattle.fronts.specs.declared.FrontDone.{FrontDone}
+use Rattle.fronts.specs.Fronts.{whole, frontOf, frontDone}
 use Rattle.workload.specs.Draw.{next, taskOf, callOf}
 use Rattle.workload.specs.Run.{Run, at, first, noted, turn, run}
 use Rattle.workload.specs.Counts.{times, counted, ran}

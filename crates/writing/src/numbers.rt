@@ -19,16 +19,6 @@ fn put_half(p: &mut [u8], n: u16)
     p[1] = (n / 256 % 256) as u8;
 }
 
-pub(crate) fn put_word(p: &mut [u8], n: u32)
-    requires { ⌜ length (now p) ≡ 4 ⌝ }
-    ensures { λ _. ⌜ now (p .exit) ≡ bytes 4 n ⌝ }
-{
-    p[0] = (n % 256) as u8;
-    p[1] = (n / 256 % 256) as u8;
-    p[2] = (n / 256 / 256 % 256) as u8;
-    p[3] = (n / 256 / 256 / 256 % 256) as u8;
-}
-
 // Writes the bytes over those from `at` on; nothing where there are fewer.
 pub fn put_bytes(block: &mut [u8], at: usize, from: &[u8])
     ensures { λ _. ⌜ now (block .exit) ≡ put 1 at (now (from .entry)) (now (block .entry)) ⌝ }
@@ -56,20 +46,5 @@ pub fn put_halves(block: &mut [u8], at: usize, from: &[u16])
         let start = at + 2 * i;
         let end = start + 2;
         put_half(&mut block[start..end], from[i]);
-    }
-}
-
-// The same for numbers of four bytes.
-pub fn put_words(block: &mut [u8], at: usize, from: &[u32])
-    ensures { λ _. ⌜ now (block .exit) ≡ put 4 at (now (from .entry)) (now (block .entry)) ⌝ }
-{
-    let n = from.len();
-    if !has_room(block.len(), at, 4, n) {
-        return;
-    }
-    for i in 0..n {
-        let start = at + 4 * i;
-        let end = start + 4;
-        put_word(&mut block[start..end], from[i]);
     }
 }

@@ -1,6 +1,6 @@
 -- The table is that of zeros.
 use borrow.Author.Needs.{needs}
-use Rattle.opening.specs.First.{firstRefused}
+use Rattle.opening.specs.Start.{firstRefused}
 use mathlib.Core.Path.{ap}
 use Rattle.opening.proofs.first_refused.Statement.{statement}
 use Rattle.opening.proofs.first_refused.Tie as tie

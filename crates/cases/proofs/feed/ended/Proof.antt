@@ -1,6 +1,6 @@
 -- Safety alone: what `finish` says that it wrote lies within the output.
 use borrow.Author.Needs.{needs}
-use Rattle.session.proofs.Buffers.{ending-within}
+use Rattle.endings.proofs.Ends.{ending-within}
 use Rattle.cases.proofs.feed.ended.Statement.{statement}
 use Rattle.cases.proofs.feed.ended.Tie as tie
 

@@ -4,7 +4,7 @@ use Prim.Native.Nat.{ℕ}
 use mathlib.Core.Path.{sym, _∙_}
 use lib.ListN.{length-replicate}
 use borrow.Author.Tests.{not-true, not-false}
-use Rattle.layout.proofs.Parts.{parts-read}
+use Rattle.layout_theorems.proofs.Reading.{parts-read}
 use Rattle.replay.proofs.Laps.{replay-small, replay-used, replay-done, replayed-long}
 use Rattle.replay.proofs.exports.tankwesho_replay.Statement.{statement}
 use Rattle.replay.proofs.exports.tankwesho_replay.Tie as tie
@@ -21,9 +21,6 @@ same-length c = search needs
 returns-2 : tie.Need-returns-2
 returns-2 c = replay-used ((c .before .before .before .before .before .before .before) .args .block .now) _ _ (c .before .before .before .if1 .left) (sym (c .before .unused-zero .ensures) ∙ not-true _ (c .if2 .taken))
 
-lesser-requires : tie.Need-lesser-requires
-lesser-requires c κs = search needs
-
 slice-aggregate-store-in : tie.Need-slice-aggregate-store-in
 slice-aggregate-store-in c = search needs
 
@@ -36,14 +33,14 @@ store-in-requires c κs = search needs
 front-in-requires : tie.Need-front-in-requires
 front-in-requires c κs = search needs
 
-run-lent-requires : tie.Need-run-lent-requires
-run-lent-requires c κs = search needs
+run-log-requires : tie.Need-run-log-requires
+run-log-requires c κs = search needs
 
 slice-aggregate-pack-whole : tie.Need-slice-aggregate-pack-whole
-slice-aggregate-pack-whole c = sym (replayed-long ((c .before .before .before .before .before .before .before .before .before .before .before .before .before .before .before .before .before .before .before .before .before .before .before) .args .block .now) _ _ _ _ (parts-read ((c .before .before .before .before .before .before .before .before .before .before .before .before .before .before .before .before .before .before .before .before .before .before .before) .args .block .now) (c .before .before .before .before .before .before .before .before .before .before .before .before .before .before .before .before .before .before .before .if1 .left) _ (c .before .before .before .before .before .before .before .front-in .ensures) _ _ (length-replicate {A = ℕ} 512 0) (c .before .before .before .before .before .before .before .before .before .before .before .store-in .ensures .0) _ _ (length-replicate {A = ℕ} 512 0) (c .before .before .before .before .before .before .before .before .before .before .before .store-in .ensures .1)) _ _ (c .before .before .before .run-lent .ensures .1 .0) (c .before .before .before .run-lent .ensures .1 .1 .0) .0)
+slice-aggregate-pack-whole c = sym (replayed-long ((c .before .before .before .before .before .before .before .before .before .before .before .before .before .before .before .before .before .before .before .before .before .before) .args .block .now) _ _ _ (parts-read ((c .before .before .before .before .before .before .before .before .before .before .before .before .before .before .before .before .before .before .before .before .before .before) .args .block .now) (c .before .before .before .before .before .before .before .before .before .before .before .before .before .before .before .before .before .before .if1 .left) _ (c .before .before .before .before .before .before .before .front-in .ensures) _ _ (length-replicate {A = ℕ} 512 0) (c .before .before .before .before .before .before .before .before .before .before .before .store-in .ensures .0) _ _ (length-replicate {A = ℕ} 512 0) (c .before .before .before .before .before .before .before .before .before .before .before .store-in .ensures .1)) _ _ (c .before .before .before .run-log .ensures .1 .1 .0) (c .before .before .before .run-log .ensures .1 .1 .1 .0) .0)
 
 slice-aggregate-pack-whole-2 : tie.Need-slice-aggregate-pack-whole-2
-slice-aggregate-pack-whole-2 c = sym (replayed-long ((c .before .before .before .before .before .before .before .before .before .before .before .before .before .before .before .before .before .before .before .before .before .before .before .before) .args .block .now) _ _ _ _ (parts-read ((c .before .before .before .before .before .before .before .before .before .before .before .before .before .before .before .before .before .before .before .before .before .before .before .before) .args .block .now) (c .before .before .before .before .before .before .before .before .before .before .before .before .before .before .before .before .before .before .before .before .if1 .left) _ (c .before .before .before .before .before .before .before .before .front-in .ensures) _ _ (length-replicate {A = ℕ} 512 0) (c .before .before .before .before .before .before .before .before .before .before .before .before .store-in .ensures .0) _ _ (length-replicate {A = ℕ} 512 0) (c .before .before .before .before .before .before .before .before .before .before .before .before .store-in .ensures .1)) _ _ (c .before .before .before .before .run-lent .ensures .1 .0) (c .before .before .before .before .run-lent .ensures .1 .1 .0) .1)
+slice-aggregate-pack-whole-2 c = sym (replayed-long ((c .before .before .before .before .before .before .before .before .before .before .before .before .before .before .before .before .before .before .before .before .before .before .before) .args .block .now) _ _ _ (parts-read ((c .before .before .before .before .before .before .before .before .before .before .before .before .before .before .before .before .before .before .before .before .before .before .before) .args .block .now) (c .before .before .before .before .before .before .before .before .before .before .before .before .before .before .before .before .before .before .before .if1 .left) _ (c .before .before .before .before .before .before .before .before .front-in .ensures) _ _ (length-replicate {A = ℕ} 512 0) (c .before .before .before .before .before .before .before .before .before .before .before .before .store-in .ensures .0) _ _ (length-replicate {A = ℕ} 512 0) (c .before .before .before .before .before .before .before .before .before .before .before .before .store-in .ensures .1)) _ _ (c .before .before .before .before .run-log .ensures .1 .1 .0) (c .before .before .before .before .run-log .ensures .1 .1 .1 .0) .1)
 
 pack-whole-requires : tie.Need-pack-whole-requires
 pack-whole-requires c κs = search needs
@@ -55,7 +52,7 @@ same-length-3 : tie.Need-same-length-3
 same-length-3 c = search needs
 
 returns-3 : tie.Need-returns-3
-returns-3 c = replay-done ((c .before .before .before .before .before .before .before .before .before .before .before .before .before .before .before .before .before .before .before .before .before .before .before .before .before .before .before .before) .args .block .now) _ _ (c .before .before .before .before .before .before .before .before .before .before .before .before .before .before .before .before .before .before .before .before .before .before .before .before .if1 .left) (sym (c .before .before .before .before .before .before .before .before .before .before .before .before .before .before .before .before .before .before .before .before .before .before .unused-zero .ensures) ∙ not-false _ (c .before .before .before .before .before .before .before .before .before .before .before .before .before .before .before .before .before .before .before .before .before .if2 .left)) _ (c .before .before .before .before .before .before .before .before .before .before .before .before .before .before .before .before .before .before .before .before .lesser .ensures) _ (parts-read ((c .before .before .before .before .before .before .before .before .before .before .before .before .before .before .before .before .before .before .before .before .before .before .before .before .before .before .before .before) .args .block .now) (c .before .before .before .before .before .before .before .before .before .before .before .before .before .before .before .before .before .before .before .before .before .before .before .before .if1 .left) _ (c .before .before .before .before .before .before .before .before .before .before .before .before .front-in .ensures) _ _ (length-replicate {A = ℕ} 512 0) (c .before .before .before .before .before .before .before .before .before .before .before .before .before .before .before .before .store-in .ensures .0) _ _ (length-replicate {A = ℕ} 512 0) (c .before .before .before .before .before .before .before .before .before .before .before .before .before .before .before .before .store-in .ensures .1)) _ (c .before .before .before .before .before .before .before .before .run-lent .ensures .0) _ (c .before .before .before .before .before .before .before .before .run-lent .ensures .1 .0) _ (c .before .before .before .before .before .before .before .before .run-lent .ensures .1 .1 .0) _ (c .before .before .before .before .before .before .before .before .run-lent .ensures .1 .1 .1) _ (c .before .before .pack-whole .ensures)
+returns-3 c = replay-done ((c .before .before .before .before .before .before .before .before .before .before .before .before .before .before .before .before .before .before .before .before .before .before .before .before .before .before .before) .args .block .now) _ _ (c .before .before .before .before .before .before .before .before .before .before .before .before .before .before .before .before .before .before .before .before .before .before .before .if1 .left) (sym (c .before .before .before .before .before .before .before .before .before .before .before .before .before .before .before .before .before .before .before .before .before .unused-zero .ensures) ∙ not-false _ (c .before .before .before .before .before .before .before .before .before .before .before .before .before .before .before .before .before .before .before .before .if2 .left)) _ (parts-read ((c .before .before .before .before .before .before .before .before .before .before .before .before .before .before .before .before .before .before .before .before .before .before .before .before .before .before .before) .args .block .now) (c .before .before .before .before .before .before .before .before .before .before .before .before .before .before .before .before .before .before .before .before .before .before .before .if1 .left) _ (c .before .before .before .before .before .before .before .before .before .before .before .before .front-in .ensures) _ _ (length-replicate {A = ℕ} 512 0) (c .before .before .before .before .before .before .before .before .before .before .before .before .before .before .before .before .store-in .ensures .0) _ _ (length-replicate {A = ℕ} 512 0) (c .before .before .before .before .before .before .before .before .before .before .before .before .before .before .before .before .store-in .ensures .1)) _ (c .before .before .before .before .before .before .before .before .run-log .ensures .1 .0) _ (c .before .before .before .before .before .before .before .before .run-log .ensures .1 .1 .0) _ (c .before .before .before .before .before .before .before .before .run-log .ensures .1 .1 .1 .0) _ (c .before .before .before .before .before .before .before .before .run-log .ensures .0) _ (c .before .before .before .before .before .before .before .before .run-log .ensures .1 .1 .1 .1) _ (c .before .before .pack-whole .ensures)
 
 pub tankwesho-replay-spec : {M : Type 1} → statement M
 tankwesho-replay-spec =
@@ -65,12 +62,11 @@ tankwesho-replay-spec =
     unused-zero-requires
     same-length
     returns-2
-    lesser-requires
     slice-aggregate-store-in
     slice-aggregate-store-in-2
     store-in-requires
     front-in-requires
-    run-lent-requires
+    run-log-requires
     slice-aggregate-pack-whole
     slice-aggregate-pack-whole-2
     pack-whole-requires

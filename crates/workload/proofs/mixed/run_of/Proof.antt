@@ -5,7 +5,7 @@ use Prim.Native.Nat.{_≤_, _-_}
 use mathlib.Core.Path.{_≡_, refl, ap, ap₂, _∙_}
 use lib.ListN.{length}
 use Rattle.rules.specs.declared.Table.{Table}
-use Rattle.calls.specs.Fronts.{whole}
+use Rattle.fronts.specs.Fronts.{whole}
 use Rattle.workload.specs.Run.{at, run}
 use Rattle.workload.specs.Counts.{times}
 use Rattle.workload.proofs.Runs.{first-whole, made-is, still-long, run-again, count-again, run-end}

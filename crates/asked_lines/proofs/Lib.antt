@@ -1,0 +1,3 @@
+-- The laws of a later line that begins at a place.
+pub mod Found
+pub mod Ahead

@@ -1,2 +1,0 @@
--- The three calls on a block.
-pub mod Calls

@@ -1,0 +1,2 @@
+-- Laws that the proof of `call_block` cites.
+pub mod Outcomes

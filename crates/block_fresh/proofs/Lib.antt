@@ -1,0 +1,2 @@
+-- Laws that the proof of `fresh_block` cites.
+pub mod Outcomes

@@ -1,0 +1,2 @@
+-- What document 01 says of the call in a line.
+pub mod Calls

@@ -1,0 +1,2 @@
+-- The laws of a call line at a place.
+pub mod Straight

@@ -1,0 +1,21 @@
+-- What the check says of the table is what the call is told of it.
+use borrow.Author.Needs.{needs}
+use mathlib.Core.Path.{_≡_}
+use lib.ListN.{length}
+use Rattle.calls.proofs.checked.call_checked.Statement.{statement}
+use Rattle.calls.proofs.checked.call_checked.Tie as tie
+
+long : (c : tie.Start) → (length (c .args .element .now) ≡ 512) × (length (c .args .criterion .now) ≡ 512)
+long c = (search needs, search needs)
+
+front-valid-requires : tie.Need-front-valid-requires
+front-valid-requires c κs = long (c .before .before)
+
+call-lent-requires : tie.Need-call-lent-requires
+call-lent-requires c κs = (long (c .before .before .before .before .before) .0, (long (c .before .before .before .before .before) .1, c .before .before .front-valid .ensures))
+
+returns : tie.Need-returns
+returns c = search needs
+
+pub call-checked-spec : {M : Type 1} → statement M
+call-checked-spec = tie.close (tie.spec front-valid-requires call-lent-requires returns)

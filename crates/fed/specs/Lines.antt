@@ -1,0 +1,42 @@
+-- Lines cut from bytes, and what they do one after the other.
+use Prim.Native.Nat.{ℕ}
+use mathlib.Core.Bool.{true, cond}
+use mathlib.Core.List.{List, [], _∷_, _++_}
+use lib.Dec.{eqb}
+use Rattle.lines.specs.Ends.{lineFeed}
+use Rattle.answer_lines.specs.Answers.{answerLine}
+use Rattle.opening.specs.declared.Standing.{Standing}
+use Rattle.bench_line.specs.Steps.{lineDone}
+
+-- ---- lines, "each ended by a line feed", and the bytes behind the last of them
+
+pub record Cut : Type 0 where
+  pub lines : List (List ℕ)
+  pub rest : List ℕ
+
+-- one byte more in front of the first line, or of the rest where there is no line
+abbrev pub onto : ℕ → List (List ℕ) → List ℕ → Cut
+onto b [] rest = record { lines = []; rest = b ∷ rest }
+onto b (line ∷ lines) rest = record { lines = (b ∷ line) ∷ lines; rest = rest }
+
+unfoldable pub cut : List ℕ → Cut
+cut [] = record { lines = []; rest = [] }
+cut (b ∷ bs) =
+    cond (eqb b lineFeed)
+    (record { lines = [] ∷ cut bs .lines; rest = cut bs .rest })
+    (onto b (cut bs .lines) (cut bs .rest))
+
+-- ---- line by line
+
+abbrev pub after : Standing → List ℕ → Standing
+after s line = record { table = lineDone s line .table; begun = true }
+
+-- "One answer line for each line"
+unfoldable pub answered : Standing → List (List ℕ) → List ℕ
+answered s [] = []
+answered s (line ∷ lines) = answerLine (lineDone s line .answer) ++ answered (after s line) lines
+
+-- where the session stands behind the lines
+unfoldable pub stood : Standing → List (List ℕ) → Standing
+stood s [] = s
+stood s (line ∷ lines) = stood (after s line) lines

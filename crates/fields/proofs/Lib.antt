@@ -1,0 +1,3 @@
+-- Laws for this crate's proofs and for its callers'.
+pub mod Values
+pub mod Parts

@@ -1,0 +1,2 @@
+-- What document 01 says of the first line of a session.
+pub mod First

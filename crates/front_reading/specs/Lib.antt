@@ -1,0 +1,2 @@
+-- The front of a table in a block.
+pub mod Fronts

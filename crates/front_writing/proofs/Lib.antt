@@ -1,0 +1,2 @@
+-- A law that the proof of `put_columns` cites.
+pub mod Lengths

@@ -1,0 +1,2 @@
+-- The parts before the store, as they are written.
+pub mod Heads

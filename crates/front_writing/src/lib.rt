@@ -1,0 +1,66 @@
+// All that stands before the store, written to a block.
+use fronts::Front;
+use layout::ARRIVED;
+use layout::BOUND;
+use layout::ENTRIES;
+use layout::HOLDER;
+use layout::LENGTH;
+use layout::LIST;
+use layout::OPERATOR;
+use layout::PRIORITY;
+use layout::STATE;
+use writing::put_bytes;
+use writing::put_halves;
+ghost use mathlib.Core.Path.{_≡_};
+ghost use Rattle.front_writing.specs.Heads.{columnsPut, headsPut, headPut};
+
+// What is said of the tasks, a column behind the other.
+fn put_columns<'a>(
+    block: &mut [u8],
+    priority: &'a [u8],
+    state: &'a [u8],
+    arrived: &'a [u16],
+    list: &'a [u16],
+    operator: &'a [u8],
+)
+    ensures { λ _. ⌜ now (block .exit) ≡ columnsPut (now (priority .entry)) (now (state .entry)) (now (arrived .entry)) (now (list .entry)) (now (operator .entry)) (now (block .entry)) ⌝ }
+{
+    put_bytes(block, PRIORITY, priority);
+    put_bytes(block, STATE, state);
+    put_halves(block, ARRIVED, arrived);
+    put_halves(block, LIST, list);
+    put_bytes(block, OPERATOR, operator);
+}
+
+// The regions, and the bounds and lengths of the queues.
+fn put_heads<'a>(
+    block: &mut [u8],
+    holder: &'a [u8],
+    entries: &'a [u8],
+    bound: &'a [u8],
+    lengths: &'a [u8],
+)
+    ensures { λ _. ⌜ now (block .exit) ≡ headsPut (now (holder .entry)) (now (entries .entry)) (now (bound .entry)) (now (lengths .entry)) (now (block .entry)) ⌝ }
+{
+    put_bytes(block, HOLDER, holder);
+    put_bytes(block, ENTRIES, entries);
+    put_bytes(block, BOUND, bound);
+    put_bytes(block, LENGTH, lengths);
+}
+
+// All that stands before the store.
+pub fn put_head(block: &mut [u8], f: Front)
+    ensures { λ _. ⌜ now (block .exit) ≡ headPut f (now (block .entry)) ⌝ }
+{
+    let counts = [f.tasks, f.regions, f.queues, f.elected];
+    put_bytes(block, 0, &counts);
+    put_columns(
+        block,
+        &f.priority,
+        &f.state,
+        &f.arrived,
+        &f.list,
+        &f.operator,
+    );
+    put_heads(block, &f.holder, &f.entries, &f.bound, &f.length);
+}

@@ -1,0 +1,17 @@
+// An answer as one number, which C can take from a register.
+use rules::Answer;
+ghost use mathlib.Core.Path.{_≡_};
+ghost use Rattle.packing.specs.Answers.{answerNumber};
+
+// The number of 10, with 255 for the elected task.
+pub const NOT_A_TABLE: u64 = 65290;
+
+// Bits 0 to 7 are the status, 8 to 15 the elected task, 16 to 23 the key and 32 to 63 the value; the byte between is 0.
+pub fn answer_number(r: Answer) -> u64
+    ensures { λ n. ⌜ n ≡ answerNumber r ⌝ }
+{
+    (r.status as u64)
+        + 256 * (r.elected as u64)
+        + 65536 * (r.key as u64)
+        + 4294967296 * (r.value as u64)
+}

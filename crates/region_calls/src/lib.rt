@@ -1,0 +1,35 @@
+// ENTER and EXIT, once accepted: one region changes, and the elected task is found afresh.
+use effects::region_after;
+use election::elected_by;
+use fronts::Front;
+use fronts::FrontDone;
+use fronts::answered;
+use regions::held_by;
+use rules::Call;
+use rules::Region;
+ghost use mathlib.Core.Path.{_≡_};
+ghost use Rattle.fronts.specs.Fronts.{frontDone, storeless};
+ghost use Rattle.region_calls.specs.Made.{regionMade};
+
+pub fn region_call(mut t: Front, k: Call) -> FrontDone
+    ensures { λ r. ⌜ r ≡ frontDone (regionMade (storeless t) k) ⌝ }
+{
+    let at = (k.a % 16) as usize;
+    let mine = std::num::wrapping_add_u8(k.caller, 1);
+    let holder = t.holder[at];
+    let entries = t.entries[at];
+    let region = region_after(
+        k,
+        mine,
+        Region {
+            holder: holder,
+            entries: entries,
+        },
+    );
+    t.holder[at] = region.holder;
+    t.entries[at] = region.entries;
+    let v = held_by(&t.holder);
+    let next = elected_by(v, &t.state, &t.priority);
+    t.elected = next;
+    answered(t, 0, 0, 0)
+}

@@ -1,0 +1,2 @@
+-- Laws of answers, for the proofs of the crates above.
+pub mod Alike

@@ -1,0 +1,3 @@
+-- What follows of a bench session's definitions.
+pub mod Rooms
+pub mod Streams

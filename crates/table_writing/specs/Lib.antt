@@ -1,0 +1,2 @@
+-- The table as it is written.
+pub mod Wholes

@@ -1,0 +1,46 @@
+// START, STOP, END, SIGNAL, WAIT and CLEAR, once accepted: one task changes.
+use conditions::met_by;
+use effects::target_of;
+use effects::task_after;
+use effects::timers_left;
+use election::elected_by;
+use fronts::Front;
+use fronts::FrontDone;
+use fronts::answered;
+use reasons::pick;
+use regions::held_by;
+use rules::Call;
+use rules::Task;
+ghost use mathlib.Core.Path.{_≡_};
+ghost use Rattle.fronts.specs.Fronts.{frontDone, storeless};
+ghost use Rattle.task_calls.specs.Made.{taskMade};
+
+// Nobody is elected afresh where the task keeps its state. A task that STOP or END names isn't stopped yet, so that its timers need a look
+// only where its state changes.
+pub fn task_call(mut t: Front, k: Call) -> FrontDone
+    ensures { λ r. ⌜ r ≡ frontDone (taskMade (storeless t) k) ⌝ }
+{
+    let i = (target_of(k) % 32) as usize;
+    let r = Task {
+        state: t.state[i],
+        arrived: t.arrived[i],
+        list: t.list[i],
+        operator: t.operator[i],
+    };
+    let met = met_by((k.b % 256) as u8, (k.a % 65536) as u16, r.arrived);
+    let after = task_after(k, r);
+    let status = pick((k.operation == 4) & !met, 1, 0);
+    t.state[i] = after.state;
+    t.arrived[i] = after.arrived;
+    t.list[i] = after.list;
+    t.operator[i] = after.operator;
+    if after.state == r.state {
+        return answered(t, status, 0, 0);
+    }
+    let v = held_by(&t.holder);
+    let next = elected_by(v, &t.state, &t.priority);
+    t.elected = next;
+    let timers = t.timers;
+    t.timers = timers_left(k.operation, i as u8, timers);
+    answered(t, status, 0, 0)
+}

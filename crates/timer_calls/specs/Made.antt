@@ -1,0 +1,26 @@
+-- What the code makes of a table for ARM and DISARM, and for TICK. Remainders change nothing of an accepted call's numbers.
+use Prim.Native.Nat.{ℕ, _%_}
+use mathlib.Core.List.{map}
+use lib.ListN.{set}
+use Rattle.rules.specs.declared.Table.{Table}
+use Rattle.rules.specs.declared.Call.{Call}
+use Rattle.rules.specs.declared.Done.{Done}
+use Rattle.rules.specs.Numbers.{timerRoom}
+use Rattle.rules.specs.Timers.{later, rung}
+use Rattle.rules.specs.Tables.{timerOf, withTimers, settled}
+use Rattle.ringing.specs.Signals.{rungRows, rowsOf, withRows}
+use Rattle.effects.specs.Effects.{timerAfter}
+use Rattle.fronts.specs.Fronts.{told}
+
+abbrev pub timerMadeAt : ℕ → Table → Call → Done
+timerMadeAt i t c = told (withTimers (t .ticks) (set (t .timers) i (timerAfter c (t .ticks) (timerOf t i))) t) 0 0 0
+
+abbrev pub timerMade : Table → Call → Done
+timerMade t c = timerMadeAt (c .a % timerRoom) t c
+
+-- the counter, the signals and the timers together, then one election
+abbrev pub tickMadeAt : ℕ → Table → Done
+tickMadeAt now t = told (settled (withTimers now (map (rung now) (t .timers)) (withRows (rungRows now (t .timers) (rowsOf t)) t))) 0 0 0
+
+abbrev pub tickMade : Table → Done
+tickMade t = tickMadeAt (later (t .ticks) 1) t

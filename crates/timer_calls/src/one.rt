@@ -1,0 +1,17 @@
+// ARM and DISARM. Neither tasks nor holders change, so that nobody is elected afresh.
+use effects::timer_after;
+use fronts::Front;
+use fronts::FrontDone;
+use fronts::answered;
+use rules::Call;
+ghost use mathlib.Core.Path.{_≡_};
+ghost use Rattle.fronts.specs.Fronts.{frontDone, storeless};
+ghost use Rattle.timer_calls.specs.Made.{timerMade};
+
+pub fn timer_call(mut t: Front, k: Call) -> FrontDone
+    ensures { λ r. ⌜ r ≡ frontDone (timerMade (storeless t) k) ⌝ }
+{
+    let at = (k.a % 16) as usize;
+    t.timers[at] = timer_after(k, t.ticks, t.timers[at]);
+    answered(t, 0, 0, 0)
+}

@@ -1,0 +1,48 @@
+// TICK: all due timers signal, and then one election.
+use clock::later_by;
+use election::elected_by;
+use fronts::Front;
+use fronts::FrontDone;
+use fronts::answered;
+use regions::held_by;
+use ringing::Rows;
+use ringing::rung_all;
+use ringing::rung_rows;
+ghost use mathlib.Core.Path.{_≡_};
+ghost use Rattle.fronts.specs.Fronts.{frontDone, storeless};
+ghost use Rattle.timer_calls.specs.Made.{tickMade};
+
+pub fn tick_call(mut t: Front) -> FrontDone
+    ensures { λ r. ⌜ r ≡ frontDone (tickMade (storeless t)) ⌝ }
+{
+    let now = later_by(t.ticks, 1);
+    let timers = t.timers;
+    let state = t.state;
+    let arrived = t.arrived;
+    let list = t.list;
+    let operator = t.operator;
+    let rows = rung_rows(
+        now,
+        timers,
+        Rows {
+            state: state,
+            arrived: arrived,
+            list: list,
+            operator: operator,
+        },
+    );
+    let state = rows.state;
+    let arrived = rows.arrived;
+    let list = rows.list;
+    let operator = rows.operator;
+    t.state = state;
+    t.arrived = arrived;
+    t.list = list;
+    t.operator = operator;
+    t.timers = rung_all(now, timers);
+    t.ticks = now;
+    let v = held_by(&t.holder);
+    let next = elected_by(v, &t.state, &t.priority);
+    t.elected = next;
+    answered(t, 0, 0, 0)
+}

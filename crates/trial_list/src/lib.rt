@@ -1,0 +1,14 @@
+// The list of trials, played: each line's call or query is made, and what comes of it is written.
+mod configurations;
+mod damage;
+mod names;
+mod questions;
+mod rows;
+mod same;
+mod say;
+mod scenes;
+mod script;
+mod trial;
+mod words;
+
+pub use script::play;

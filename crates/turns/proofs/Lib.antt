@@ -1,0 +1,2 @@
+-- The laws of the line that begins at a place.
+pub mod Found

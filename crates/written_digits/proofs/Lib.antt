@@ -1,0 +1,2 @@
+-- Laws for this crate's proofs and for its callers'.
+pub mod Put
