@@ -14,45 +14,11 @@ use timer_calls::timer_call;
 ghost use mathlib.Core.Path.{_≡_};
 ghost use lib.ListN.{length};
 ghost use Rattle.rules.specs.Validity.{valid};
-ghost use Rattle.rules.specs.Refusals.{refusal};
 ghost use Rattle.rules.specs.Step.{step};
 ghost use Rattle.fronts.specs.Fronts.{whole, frontDone};
 
-// An accepted call, by its kind.
-fn accepted_call(
-    f: Front,
-    k: Call,
-    element: &mut [u32; 512],
-    criterion: &mut [u8; 512],
-) -> FrontDone
-    requires { ⌜ length (now element) ≡ 512 ⌝ }
-    requires { ⌜ length (now criterion) ≡ 512 ⌝ }
-    requires { ⌜ refusal (whole f (now element) (now criterion)) k ≡ 0 ⌝ }
-    ensures front { λ r. ⌜ r ≡ frontDone (step (whole f (now (element .entry)) (now (criterion .entry))) k) ⌝ }
-    ensures elements { λ _. ⌜ now (element .exit) ≡ step (whole f (now (element .entry)) (now (criterion .entry))) k .table .element ⌝ }
-    ensures criteria { λ _. ⌜ now (criterion .exit) ≡ step (whole f (now (element .entry)) (now (criterion .entry))) k .table .criterion ⌝ }
-{
-    let operation = k.operation;
-    if operation < 6 {
-        return task_call(f, k);
-    }
-    if operation < 8 {
-        return region_call(f, k);
-    }
-    if operation == 8 {
-        return send_call(f, k, element, criterion);
-    }
-    if operation == 9 {
-        return retrieve_call(f, k, element, criterion);
-    }
-    if operation < 12 {
-        return timer_call(f, k);
-    }
-    tick_call(f)
-}
-
 // `ok` says whether the table is valid: whoever makes many calls on one table need not look at it each time, since a call leaves a valid
-// table valid.
+// table valid. The front goes straight to the function for the kind of call and straight back: each further pass of it would copy it.
 pub(crate) fn call_lent(
     f: Front,
     ok: bool,
@@ -83,16 +49,32 @@ pub(crate) fn call_lent(
         timers,
         k,
     );
-    if status == 0 {
-        return accepted_call(f, k, element, criterion);
+    if status != 0 {
+        return FrontDone {
+            front: f,
+            answer: Answer {
+                status: status,
+                value: 0,
+                key: 0,
+                elected: reported_by(status, f.elected),
+            },
+        };
     }
-    FrontDone {
-        front: f,
-        answer: Answer {
-            status: status,
-            value: 0,
-            key: 0,
-            elected: reported_by(status, f.elected),
-        },
+    let operation = k.operation;
+    if operation < 6 {
+        return task_call(f, k);
     }
+    if operation < 8 {
+        return region_call(f, k);
+    }
+    if operation == 8 {
+        return send_call(f, k, element, criterion);
+    }
+    if operation == 9 {
+        return retrieve_call(f, k, element, criterion);
+    }
+    if operation < 12 {
+        return timer_call(f, k);
+    }
+    tick_call(f)
 }

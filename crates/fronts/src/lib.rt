@@ -1,11 +1,9 @@
-// A table in two parts, its front and its store: taken apart, put together again, and the answer of an accepted call on them.
+// A table in two parts, its front and its store: taken apart, and put together again.
 use rules::Answer;
 use rules::Timer;
 
-mod answer;
 mod parts;
 
-pub use answer::answered;
 pub use parts::front_of;
 pub use parts::table_of;
 

@@ -3,8 +3,8 @@ use closing::close_criteria;
 use closing::close_elements;
 use fronts::Front;
 use fronts::FrontDone;
-use fronts::answered;
 use retrieving::place_of;
+use rules::Answer;
 use rules::Call;
 ghost use mathlib.Core.Path.{_≡_};
 ghost use lib.ListN.{length};
@@ -33,5 +33,13 @@ pub fn retrieve_call(
     close_elements(element, place, end);
     close_criteria(criterion, place, end);
     t.length[at] = std::num::wrapping_add_u8(n, 255);
-    answered(t, 0, value, key)
+    FrontDone {
+        front: t,
+        answer: Answer {
+            status: 0,
+            value: value,
+            key: key,
+            elected: t.elected,
+        },
+    }
 }

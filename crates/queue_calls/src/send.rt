@@ -1,7 +1,7 @@
 // SEND: the element goes behind the last.
 use fronts::Front;
 use fronts::FrontDone;
-use fronts::answered;
+use rules::Answer;
 use rules::Call;
 ghost use mathlib.Core.Path.{_≡_};
 ghost use lib.ListN.{length};
@@ -26,5 +26,13 @@ pub fn send_call(
     element[end] = k.b;
     criterion[end] = (k.c % 256) as u8;
     t.length[at] = std::num::wrapping_add_u8(n, 1);
-    answered(t, 0, 0, 0)
+    FrontDone {
+        front: t,
+        answer: Answer {
+            status: 0,
+            value: 0,
+            key: 0,
+            elected: t.elected,
+        },
+    }
 }

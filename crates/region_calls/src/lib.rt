@@ -3,8 +3,8 @@ use effects::region_after;
 use election::elected_by;
 use fronts::Front;
 use fronts::FrontDone;
-use fronts::answered;
 use regions::held_by;
+use rules::Answer;
 use rules::Call;
 use rules::Region;
 ghost use mathlib.Core.Path.{_≡_};
@@ -31,5 +31,13 @@ pub fn region_call(mut t: Front, k: Call) -> FrontDone
     let v = held_by(&t.holder);
     let next = elected_by(v, &t.state, &t.priority);
     t.elected = next;
-    answered(t, 0, 0, 0)
+    FrontDone {
+        front: t,
+        answer: Answer {
+            status: 0,
+            value: 0,
+            key: 0,
+            elected: t.elected,
+        },
+    }
 }

@@ -6,9 +6,9 @@ use effects::timers_left;
 use election::elected_by;
 use fronts::Front;
 use fronts::FrontDone;
-use fronts::answered;
 use reasons::pick;
 use regions::held_by;
+use rules::Answer;
 use rules::Call;
 use rules::Task;
 ghost use mathlib.Core.Path.{_≡_};
@@ -35,12 +35,28 @@ pub fn task_call(mut t: Front, k: Call) -> FrontDone
     t.list[i] = after.list;
     t.operator[i] = after.operator;
     if after.state == r.state {
-        return answered(t, status, 0, 0);
+        return FrontDone {
+            front: t,
+            answer: Answer {
+                status: status,
+                value: 0,
+                key: 0,
+                elected: t.elected,
+            },
+        };
     }
     let v = held_by(&t.holder);
     let next = elected_by(v, &t.state, &t.priority);
     t.elected = next;
     let timers = t.timers;
     t.timers = timers_left(k.operation, i as u8, timers);
-    answered(t, status, 0, 0)
+    FrontDone {
+        front: t,
+        answer: Answer {
+            status: status,
+            value: 0,
+            key: 0,
+            elected: t.elected,
+        },
+    }
 }

@@ -2,7 +2,7 @@
 use effects::timer_after;
 use fronts::Front;
 use fronts::FrontDone;
-use fronts::answered;
+use rules::Answer;
 use rules::Call;
 ghost use mathlib.Core.Path.{_≡_};
 ghost use Rattle.fronts.specs.Fronts.{frontDone, storeless};
@@ -13,5 +13,13 @@ pub fn timer_call(mut t: Front, k: Call) -> FrontDone
 {
     let at = (k.a % 16) as usize;
     t.timers[at] = timer_after(k, t.ticks, t.timers[at]);
-    answered(t, 0, 0, 0)
+    FrontDone {
+        front: t,
+        answer: Answer {
+            status: 0,
+            value: 0,
+            key: 0,
+            elected: t.elected,
+        },
+    }
 }

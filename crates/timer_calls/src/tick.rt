@@ -3,11 +3,11 @@ use clock::later_by;
 use election::elected_by;
 use fronts::Front;
 use fronts::FrontDone;
-use fronts::answered;
 use regions::held_by;
 use ringing::Rows;
 use ringing::rung_all;
 use ringing::rung_rows;
+use rules::Answer;
 ghost use mathlib.Core.Path.{_≡_};
 ghost use Rattle.fronts.specs.Fronts.{frontDone, storeless};
 ghost use Rattle.timer_calls.specs.Made.{tickMade};
@@ -44,5 +44,13 @@ pub fn tick_call(mut t: Front) -> FrontDone
     let v = held_by(&t.holder);
     let next = elected_by(v, &t.state, &t.priority);
     t.elected = next;
-    answered(t, 0, 0, 0)
+    FrontDone {
+        front: t,
+        answer: Answer {
+            status: 0,
+            value: 0,
+            key: 0,
+            elected: t.elected,
+        },
+    }
 }

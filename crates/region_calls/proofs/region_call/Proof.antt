@@ -1,6 +1,6 @@
 -- One region is written, and the election is that of the table after it.
 use borrow.Author.Needs.{needs}
-use mathlib.Core.Path.{ap, _∙_}
+use mathlib.Core.Path.{ap}
 use Rattle.fronts.specs.Fronts.{frontDone, storeless}
 use Rattle.region_calls.proofs.Entered.{region-made}
 use Rattle.region_calls.proofs.region_call.Statement.{statement}
@@ -33,11 +33,8 @@ held-by-requires c κs = search needs
 elected-by-requires : tie.Need-elected-by-requires
 elected-by-requires c κs = search needs
 
-answered-requires : tie.Need-answered-requires
-answered-requires c κs = search needs
-
 returns : tie.Need-returns
-returns c = c .answered .ensures ∙ ap frontDone (region-made (storeless ((c .before .before .before .before .before .before .before .before .before .before .before .before .before) .args .t1)) ((c .before .before .before .before .before .before .before .before .before .before .before .before .before) .args .k) _ _ _ (c .before .before .before .before .before .before .before .before .before .before .before .wrapping-add-u8 .ensures) _ _ _ (c .before .before .before .before .before .before .before .before .region-after .ensures) (c .before .before .before .before .before .held-by .ensures) (c .before .elected-by .ensures))
+returns c = ap frontDone (region-made (storeless ((c .before .before .before .before .before .before .before .before .before .before .before .before) .args .t1)) ((c .before .before .before .before .before .before .before .before .before .before .before .before) .args .k) _ _ _ (c .before .before .before .before .before .before .before .before .before .before .wrapping-add-u8 .ensures) _ _ _ (c .before .before .before .before .before .before .before .region-after .ensures) (c .before .before .before .before .held-by .ensures) (c .elected-by .ensures))
 
 pub region-call-spec : {M : Type 1} → statement M
 region-call-spec =
@@ -52,5 +49,4 @@ region-call-spec =
     element-write-t-2
     held-by-requires
     elected-by-requires
-    answered-requires
     returns)

@@ -1,6 +1,6 @@
 -- One task is written; where its state changes, the election and the timers are those of the definition.
 use borrow.Author.Needs.{needs}
-use mathlib.Core.Path.{_≡_, ap, _∙_}
+use mathlib.Core.Path.{_≡_, ap}
 use lib.ListN.{length, length-set}
 use Rattle.fronts.specs.Fronts.{frontDone, storeless}
 use Rattle.task_calls.proofs.Changed.{state-kept, state-changed}
@@ -67,11 +67,8 @@ element-write-t-3 c = search needs
 element-write-t-4 : tie.Need-element-write-t-4
 element-write-t-4 c = search needs
 
-answered-requires : tie.Need-answered-requires
-answered-requires c κs = search needs
-
 returns : tie.Need-returns
-returns c = rw (← c .before .before .before .before .before .before .before .before .before .before .before .before .before .before .target-of .ensures) (c .answered .ensures ∙ ap frontDone (state-kept (storeless ((c .before .before .before .before .before .before .before .before .before .before .before .before .before .before .before) .args .t1)) ((c .before .before .before .before .before .before .before .before .before .before .before .before .before .before .before) .args .k) _ _ _ _ (c .before .before .before .before .before .before .task-after .ensures) (c .before .before .before .before .before .before .before .met-by .ensures) (c .before .before .before .before .pick .ensures) (c .before .if1 .taken)))
+returns c = rw (← c .before .before .before .before .before .before .before .before .before .before .before .before .before .target-of .ensures) (ap frontDone (state-kept (storeless ((c .before .before .before .before .before .before .before .before .before .before .before .before .before .before) .args .t1)) ((c .before .before .before .before .before .before .before .before .before .before .before .before .before .before) .args .k) _ _ _ _ (c .before .before .before .before .before .task-after .ensures) (c .before .before .before .before .before .before .met-by .ensures) (c .before .before .before .pick .ensures) (c .if1 .taken)))
 
 held-by-requires : tie.Need-held-by-requires
 held-by-requires c κs = long (c .before .before .before .before .before .before .before .before .before .before .before .before .before .before .before .before) .1 .1
@@ -85,11 +82,8 @@ cast-timers-left c = search needs
 timers-left-requires : tie.Need-timers-left-requires
 timers-left-requires c κs = search needs
 
-answered-requires-2 : tie.Need-answered-requires-2
-answered-requires-2 c κs = search needs
-
 returns-2 : tie.Need-returns-2
-returns-2 c = rw (← c .before .before .before .before .before .before .before .before .before .before .before .before .before .before .before .before .before .before .before .before .before .before .before .target-of .ensures) (c .answered2 .ensures ∙ ap frontDone (state-changed (storeless ((c .before .before .before .before .before .before .before .before .before .before .before .before .before .before .before .before .before .before .before .before .before .before .before .before) .args .t1)) ((c .before .before .before .before .before .before .before .before .before .before .before .before .before .before .before .before .before .before .before .before .before .before .before .before) .args .k) _ _ _ _ (c .before .before .before .before .before .before .before .before .before .before .before .before .before .before .before .task-after .ensures) (c .before .before .before .before .before .before .before .before .before .before .before .before .before .before .before .before .met-by .ensures) (c .before .before .before .before .before .before .before .before .before .before .before .before .before .pick .ensures) (c .before .before .before .before .before .before .before .before .before .before .if1 .left) _ _ _ (c .before .timers-left .ensures) (c .before .before .before .before .before .before .before .held-by .ensures) (c .before .before .before .elected-by .ensures)))
+returns-2 c = rw (← c .before .before .before .before .before .before .before .before .before .before .before .before .before .before .before .before .before .before .before .before .before .before .target-of .ensures) (ap frontDone (state-changed (storeless ((c .before .before .before .before .before .before .before .before .before .before .before .before .before .before .before .before .before .before .before .before .before .before .before) .args .t1)) ((c .before .before .before .before .before .before .before .before .before .before .before .before .before .before .before .before .before .before .before .before .before .before .before) .args .k) _ _ _ _ (c .before .before .before .before .before .before .before .before .before .before .before .before .before .before .task-after .ensures) (c .before .before .before .before .before .before .before .before .before .before .before .before .before .before .before .met-by .ensures) (c .before .before .before .before .before .before .before .before .before .before .before .before .pick .ensures) (c .before .before .before .before .before .before .before .before .before .if1 .left) _ _ _ (c .timers-left .ensures) (c .before .before .before .before .before .before .held-by .ensures) (c .before .before .elected-by .ensures)))
 
 pub task-call-spec : {M : Type 1} → statement M
 task-call-spec =
@@ -114,11 +108,9 @@ task-call-spec =
     mul-t-2
     element-write-t-3
     element-write-t-4
-    answered-requires
     returns
     held-by-requires
     elected-by-requires
     cast-timers-left
     timers-left-requires
-    answered-requires-2
     returns-2)

@@ -51,11 +51,8 @@ wrapping-add-u8-requires c κs = search needs
 element-write-t : tie.Need-element-write-t
 element-write-t c = search needs
 
-answered-requires : tie.Need-answered-requires
-answered-requires c κs = search needs
-
 returns : tie.Need-returns
-returns c = (c .answered .ensures ∙ rw (← c .before .before .before .before .before .before .before .before .place-of .ensures) (rw (c .before .wrapping-add-u8 .ensures) refl), (c .before .before .before .before .close-elements .ensures ∙ rw (c .before .before .before .before .before .before .before .before .place-of .ensures) refl, c .before .before .close-criteria .ensures ∙ rw (c .before .before .before .before .before .before .before .before .place-of .ensures) refl))
+returns c = (rw (← c .before .before .before .before .before .before .before .place-of .ensures) (rw (c .wrapping-add-u8 .ensures) refl), (c .before .before .before .close-elements .ensures ∙ rw (c .before .before .before .before .before .before .before .place-of .ensures) refl, c .before .close-criteria .ensures ∙ rw (c .before .before .before .before .before .before .before .place-of .ensures) refl))
 
 pub retrieve-call-spec : {M : Type 1} → statement M
 retrieve-call-spec =
@@ -74,5 +71,4 @@ retrieve-call-spec =
     close-criteria-requires
     wrapping-add-u8-requires
     element-write-t
-    answered-requires
     returns)

@@ -1,7 +1,7 @@
 -- A length is below 256, so that the sum fits; what is written is what the definition says.
 use borrow.Author.Needs.{needs}
 use native.Mathlib.Omega.{arith}
-use mathlib.Core.Path.{refl, _∙_}
+use mathlib.Core.Path.{refl}
 use Prim.Native.Nat.{ℕ, _%_, _<_}
 use lib.ListN.{getD}
 use mir.Val.{Fits}
@@ -45,11 +45,8 @@ wrapping-add-u8-requires c κs = search needs
 element-write-t : tie.Need-element-write-t
 element-write-t c = search needs
 
-answered-requires : tie.Need-answered-requires
-answered-requires c κs = search needs
-
 returns : tie.Need-returns
-returns c = (c .answered .ensures ∙ rw (c .before .wrapping-add-u8 .ensures) refl, (refl, refl))
+returns c = (rw (c .wrapping-add-u8 .ensures) refl, (refl, refl))
 
 pub send-call-spec : {M : Type 1} → statement M
 send-call-spec =
@@ -66,5 +63,4 @@ send-call-spec =
     element-write-criterion
     wrapping-add-u8-requires
     element-write-t
-    answered-requires
     returns)

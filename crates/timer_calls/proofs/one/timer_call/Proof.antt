@@ -1,6 +1,6 @@
 -- One entry of the timers is written; the rest is as it came in.
 use borrow.Author.Needs.{needs}
-use mathlib.Core.Path.{refl, _∙_}
+use mathlib.Core.Path.{refl}
 use Rattle.timer_calls.proofs.one.timer_call.Statement.{statement}
 use Rattle.timer_calls.proofs.one.timer_call.Tie as tie
 
@@ -22,11 +22,8 @@ mul-t11 c = search needs
 element-set-from-t : tie.Need-element-set-from-t
 element-set-from-t c = search needs
 
-answered-requires : tie.Need-answered-requires
-answered-requires c κs = search needs
-
 returns : tie.Need-returns
-returns c = c .answered .ensures ∙ rw (c .before .timer-after .ensures) refl
+returns c = rw (c .timer-after .ensures) refl
 
 pub timer-call-spec : {M : Type 1} → statement M
 timer-call-spec =
@@ -38,5 +35,4 @@ timer-call-spec =
     timer-after-requires
     mul-t11
     element-set-from-t
-    answered-requires
     returns)

@@ -1,6 +1,6 @@
 -- The rows, the timers and the counter are those of the definition, and so is who is elected.
 use borrow.Author.Needs.{needs}
-use mathlib.Core.Path.{_≡_, ap, _∙_}
+use mathlib.Core.Path.{_≡_, ap}
 use lib.ListN.{length}
 use Rattle.fronts.specs.Fronts.{frontDone, storeless}
 use Rattle.timer_calls.proofs.Ticked.{tick-made}
@@ -25,11 +25,8 @@ held-by-requires c κs = long (c .before .before .before .before .before .before
 elected-by-requires : tie.Need-elected-by-requires
 elected-by-requires c κs = (search needs, long (c .before .before .before .before .before .before .before .before .before .before .before .before .before .before .before .before .before .before) .0)
 
-answered-requires : tie.Need-answered-requires
-answered-requires c κs = search needs
-
 returns : tie.Need-returns
-returns c = c .answered .ensures ∙ ap frontDone (tick-made (storeless ((c .before .before .before .before .before .before .before .before .before .before .before .before .before .before .before .before .before .before .before .before) .args .t1)) _ _ _ _ _ (c .before .before .before .before .before .before .before .before .before .before .before .before .before .before .before .before .before .before .before .later-by .ensures) (c .before .before .before .before .before .before .before .before .before .before .before .before .before .rung-rows .ensures) (c .before .before .before .before .before .before .before .before .rung-all .ensures) (c .before .before .before .before .before .held-by .ensures) (c .before .elected-by .ensures))
+returns c = ap frontDone (tick-made (storeless ((c .before .before .before .before .before .before .before .before .before .before .before .before .before .before .before .before .before .before .before) .args .t1)) _ _ _ _ _ (c .before .before .before .before .before .before .before .before .before .before .before .before .before .before .before .before .before .before .later-by .ensures) (c .before .before .before .before .before .before .before .before .before .before .before .before .rung-rows .ensures) (c .before .before .before .before .before .before .before .rung-all .ensures) (c .before .before .before .before .held-by .ensures) (c .elected-by .ensures))
 
 pub tick-call-spec : {M : Type 1} → statement M
 tick-call-spec =
@@ -40,5 +37,4 @@ tick-call-spec =
     rung-all-requires
     held-by-requires
     elected-by-requires
-    answered-requires
     returns)
