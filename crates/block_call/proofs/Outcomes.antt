@@ -21,8 +21,9 @@ use Rattle.rules.specs.Step.{step}
 use Rattle.rules.proofs.Bools.{given}
 use Rattle.rules.proofs.Validity.{parts-of}
 use Rattle.rules.proofs.Refusals.{accepted-facts}
-use Rattle.rules.proofs.Effects.{each-effect, contents-kept}
+use Rattle.rules.proofs.Effects.{each-effect}
 use Rattle.theorems.proofs.Kept.{valid-kept, refused-same}
+use Rattle.calls.proofs.Together.{step-contents}
 use Rattle.fronts.specs.declared.FrontDone.{FrontDone}
 use Rattle.fronts.specs.Fronts.{whole, frontOf, frontDone}
 use Rattle.packing.specs.Answers.{answerNumber}
@@ -63,16 +64,6 @@ step-left t c h = go (isZero (refusal t c)) refl
     go : (b : Bool) → isZero (refusal t c) ≡ b → step t c .table ≡ t
     go true z = let low = effect-low t c in absurd (omega (arith, rw z at h))
     go false z = rw z
-
--- only SEND and RETRIEVE change the store
-step-contents : (t : Table) (c : Call) → (eqb (c .operation) SEND || eqb (c .operation) RETRIEVE) ≡ false
-    → (step t c .table .element ≡ t .element) × (step t c .table .criterion ≡ t .criterion)
-unfolding step
-step-contents t c h = go (isZero (refusal t c)) refl
-  where
-    go : (b : Bool) → isZero (refusal t c) ≡ b → (step t c .table .element ≡ t .element) × (step t c .table .criterion ≡ t .criterion)
-    go true z = rw z (let same = contents-kept t c h in (ap (λ x. x .element) same, ap (λ x. x .criterion) same))
-    go false z = rw z (refl, refl)
 
 -- the arrays of a valid table have their lengths
 valid-sized : (t : Table) → valid t ≡ true → Sized t

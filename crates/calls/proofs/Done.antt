@@ -1,7 +1,7 @@
 -- What the code makes of a table for each kind of accepted call is the step of the rules, and so is what it answers to a refused one.
 use Prim.Native.Nat.{ℕ, zero, suc, _+_, _-_, _%_, _<_, _≤_}
 use mathlib.Core.Path.{_≡_, refl, sym, ap, ap₂, _∙_}
-use mathlib.Core.Bool.{Bool, true, false, cond, not, _&&_, _||_}
+use mathlib.Core.Bool.{Bool, true, false, cond, not, _||_}
 use mathlib.Core.List.{List, [], _∷_}
 use native.Mathlib.Omega.{arith}
 use native.Mathlib.Numerals.{add-one}
@@ -12,9 +12,9 @@ use borrow.Author.Tests.{eqb-true, ne-eqb, ltb-true, ltb-false, leb-false, not-f
 use Rattle.rules.specs.declared.Table.{Table}
 use Rattle.rules.specs.declared.Call.{Call}
 use Rattle.rules.specs.declared.Done.{Done}
-use Rattle.rules.specs.Numbers.{queueRoom, places, WAIT, SEND, RETRIEVE, TICK}
+use Rattle.rules.specs.Numbers.{queueRoom, places, SEND, RETRIEVE, TICK}
 use Rattle.rules.specs.Queues.{Pair, pair, firstPlace}
-use Rattle.rules.specs.Tables.{taskOf, lengthOf, boundOf, queueOf, withTask, withTimers, withElected, electionOf, settled}
+use Rattle.rules.specs.Tables.{taskOf, lengthOf, boundOf, queueOf, withTask, withElected, electionOf}
 use Rattle.rules.specs.Answers.{done}
 use Rattle.rules.specs.Refusals.{missing, refusal}
 use Rattle.rules.specs.Effects.{Effect, plain, ticked, effect}
@@ -27,7 +27,7 @@ use Rattle.closing.specs.Gaps.{closedIn}
 use Rattle.retrieving.specs.Places.{placeIn}
 use Rattle.retrieving.proofs.Places.{place-is, none-is, given-is, taken-is}
 use Rattle.ringing.proofs.Signals.{ticked-is}
-use Rattle.effects.specs.Effects.{target, taskAfter, timersLeft}
+use Rattle.effects.specs.Effects.{target, taskAfter}
 use Rattle.refusals.proofs.Refused.{room, send-there, retrieve-there}
 use Rattle.fronts.specs.Fronts.{told}
 use Rattle.task_calls.specs.Made.{suspended, keepsState, stateKept, stateChanged, taskMadeAt, taskMade}
