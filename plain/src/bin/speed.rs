@@ -4,6 +4,7 @@
 //!
 //! LOG is where the measured log is written for the two benches. Times are processor time. The log is cut into pieces, each side runs a
 //! piece before any runs the next, and each piece is timed by itself: what else runs on the machine then disturbs all sides alike.
+//! From these times follows what the proved executive's validity check costs, and what a call on a block costs beside one in a replay.
 
 use std::fs::{self, File};
 use std::process::{Command, ExitCode, Stdio};
@@ -82,6 +83,11 @@ struct Side {
     begin: fn() -> Run,
 }
 
+/// The names of the proved sides, by which their times are found again.
+const CHECK_AT_EVERY_CALL: &str = "proved, replay, check at every call";
+const CHECK_ONCE: &str = "proved, replay, check once";
+const ON_A_BLOCK: &str = "proved, call by call on a block";
+
 /// A further way to run either side is a further entry here.
 const SIDES: &[Side] = &[
     Side {
@@ -96,19 +102,19 @@ const SIDES: &[Side] = &[
     },
     #[cfg(feature = "proved")]
     Side {
-        name: "proved, replay, check at every call",
+        name: CHECK_AT_EVERY_CALL,
         against: 0,
         begin: || proved_replay(true),
     },
     #[cfg(feature = "proved")]
     Side {
-        name: "proved, replay, check once",
+        name: CHECK_ONCE,
         against: 1,
         begin: || proved_replay(false),
     },
     #[cfg(feature = "proved")]
     Side {
-        name: "proved, call by call on a block",
+        name: ON_A_BLOCK,
         against: 0,
         begin: proved_on_block,
     },
@@ -192,8 +198,8 @@ fn show(name: &str, times: &Times, against: &Times) {
     );
 }
 
-/// The calls in one process: each piece by every side in turn, the whole log again and again.
-fn in_process(calls: &[Call], repeats: usize) -> Result<(), String> {
+/// The calls in one process: each piece by every side in turn, the whole log again and again. Gives the times of each side.
+fn in_process(calls: &[Call], repeats: usize) -> Result<Vec<Times>, String> {
     let pieces: Vec<Piece> = calls
         .chunks(PIECE)
         .map(|calls| Piece {
@@ -219,7 +225,53 @@ fn in_process(calls: &[Call], repeats: usize) -> Result<(), String> {
     for (side, own) in SIDES.iter().zip(&times) {
         show(side.name, own, &times[side.against]);
     }
-    Ok(())
+    Ok(times)
+}
+
+/// What a call costs on each of the proved sides, in nanoseconds.
+struct Proved {
+    checked_at_every_call: f64,
+    checked_once: f64,
+    on_a_block: f64,
+}
+
+impl Proved {
+    /// Nothing where the proved library is not linked.
+    fn of(times: &[Times], pick: fn(&Times) -> f64) -> Option<Self> {
+        let cost = |name| SIDES.iter().position(|side| side.name == name).map(|at| pick(&times[at]));
+        Some(Proved {
+            checked_at_every_call: cost(CHECK_AT_EVERY_CALL)?,
+            checked_once: cost(CHECK_ONCE)?,
+            on_a_block: cost(ON_A_BLOCK)?,
+        })
+    }
+
+    /// Nanoseconds a check: both replays make the same calls, and only one checks before each.
+    fn check(&self) -> f64 {
+        self.checked_at_every_call - self.checked_once
+    }
+
+    /// A call with its check, measured in checks.
+    fn call_in_checks(&self) -> f64 {
+        self.checked_at_every_call / self.check()
+    }
+
+    /// A call on a block, measured in calls of the replay; both have their check.
+    fn block_in_calls(&self) -> f64 {
+        self.on_a_block / self.checked_at_every_call
+    }
+}
+
+/// What the proved sides say of each other.
+fn show_proved(least: &Proved, median: &Proved) {
+    let line = |name, figure: fn(&Proved) -> f64, places| {
+        println!("{name:36}{:10.places$}{:10.places$}", figure(least), figure(median));
+    };
+    println!("\nof the proved executive alone, from the times above");
+    println!("{:36}{:>10}{:>10}", "", "least", "median");
+    line("nanoseconds a check", Proved::check, 1);
+    line("a call with its check / its check", Proved::call_in_checks, 2);
+    line("on a block / replay, check each call", Proved::block_in_calls, 2);
 }
 
 fn bench_time(bench: &str, log: &str) -> Result<f64, String> {
@@ -263,8 +315,12 @@ fn measure(words: &[String]) -> Result<(), String> {
     fs::write(log, written(&MEASURED, &calls)).map_err(|error| format!("{log}: {error}"))?;
     println!("\nnanoseconds a call over {repeats} repeats, then the ratio to the plain side");
     println!("{:36}{:>10}{:>10}{:>10}{:>10}", "", "least", "median", "least", "median");
-    in_process(&calls, repeats)?;
-    whole_benches(proved, plain, log, repeats)
+    let times = in_process(&calls, repeats)?;
+    whole_benches(proved, plain, log, repeats)?;
+    if let (Some(least), Some(median)) = (Proved::of(&times, Times::least), Proved::of(&times, Times::median)) {
+        show_proved(&least, &median);
+    }
+    Ok(())
 }
 
 fn main() -> ExitCode {
