@@ -1,37 +1,39 @@
 // Configurations.
+use super::blocks::Block;
+use super::blocks::block_of;
+use super::blocks::same_blocks;
 use super::rows::Row;
-use super::same::same;
 use super::say;
-use super::scenes::zeros;
+use super::scenes::fresh_block;
+use super::scenes::fresh_one;
 use executive::fresh;
-use rules::Table;
+use layout::SIZE;
 ghost use mathlib.Core.Path.{_≡_};
-ghost use Prim.Native.Nat.{_≤_};
 ghost use lib.ListN.{length};
 
-// A configuration: its answer, and whether its table is that of zeros, which stands in `scenes` written out.
-fn built<'a>(tasks: u8, regions: u8, queues: u8, priorities: &'a [u8], bounds: &'a [u8]) -> Table {
-    let d = fresh(tasks, regions, queues, priorities, bounds);
-    let t = d.table;
+// The answer of a configuration, and its table.
+fn answered<'a>(r: Row, priorities: &'a [u8], bounds: &'a [u8]) -> Block {
+    let d = fresh(
+        (r.a % 256) as u8,
+        (r.b % 256) as u8,
+        (r.c % 256) as u8,
+        priorities,
+        bounds,
+    );
     say::answer(d.answer);
-    say::ending(same(t, zeros()), b"zeros", b"built");
-    t
+    block_of(d.table)
 }
 
-fn byte(n: u32) -> u8 {
-    (n % 256) as u8
-}
-
-// A length or an index.
-fn wide(n: u32) -> usize
-    ensures { λ r. ⌜ r ≤ 255 ⌝ }
-{
-    (n % 256) as usize
+// A configuration: its answer, and whether its table is that of zeros.
+fn built<'a>(r: Row, priorities: &'a [u8], bounds: &'a [u8]) -> Block {
+    let table = answered(r, priorities, bounds);
+    say::ending(same_blocks(table, [0; SIZE]), b"zeros", b"built");
+    table
 }
 
 // With the lists of document 01's examples.
-pub(crate) fn benched(r: Row) -> Table {
-    built(byte(r.a), byte(r.b), byte(r.c), &[5, 5, 2], &[2])
+pub(crate) fn benched(r: Row) -> Block {
+    built(r, &[5, 5, 2], &[2])
 }
 
 // Bounds of 2, but for the last of the first n.
@@ -40,31 +42,26 @@ fn bounds_listed(n: u32, last: u8) -> [u8; 256]
 {
     let mut out = [2u8; 256];
     if 0 < n {
-        out[wide(n - 1)] = last;
+        out[((n - 1) % 256) as usize] = last;
     }
     out
 }
 
 // With so many priorities, each 7, and so many bounds, each 2 but for the last of them.
-pub(crate) fn listed(r: Row) -> Table {
+pub(crate) fn listed(r: Row) -> Block {
     let priorities = [7u8; 256];
-    let bounds = bounds_listed(r.bounds, byte(r.last));
-    let p = wide(r.priorities);
-    let b = wide(r.bounds);
-    built(
-        byte(r.a),
-        byte(r.b),
-        byte(r.c),
-        &priorities[0..p],
-        &bounds[0..b],
-    )
+    let bounds = bounds_listed(r.bounds, (r.last % 256) as u8);
+    let p = (r.priorities % 256) as usize;
+    let b = (r.bounds % 256) as usize;
+    built(r, &priorities[0..p], &bounds[0..b])
 }
 
-// Entries past a count leave no trace in the table: the lists of document 01's examples, and longer ones.
-pub(crate) fn lengthened(t: Table) -> Table {
-    let d = fresh(3, 2, 1, &[5, 5, 2], &[2]);
-    let e = fresh(3, 2, 1, &[5, 5, 2, 9], &[2, 65]);
-    say::word(b":");
-    say::ending(same(d.table, e.table), b"the same table", b"another table");
-    t
+// Entries past a count leave no trace in the table: document 01's configuration, and the same with longer lists.
+pub(crate) fn lengthened() {
+    let longer = fresh_block(3, 2, 1, &[5, 5, 2, 9], &[2, 65]);
+    if same_blocks(fresh_one(), longer) {
+        say::line(b": the same table");
+    } else {
+        say::line(b": another table");
+    }
 }

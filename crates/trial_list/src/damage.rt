@@ -1,46 +1,50 @@
-// A table with one number of it changed.
-use rules::Table;
-use rules::Timer;
+// A table with one number of it changed. A field is given by its place in a block.
+use super::blocks::Block;
+use layout::ARRIVED;
+use layout::ELEMENT;
+use layout::LIST;
+use layout::SIZE;
+use layout::TICKS;
+use layout::TIMER;
+ghost use Prim.Native.Nat.{_≤_};
 
-// The timer with n in that field.
-fn spoiled_timer(mut r: Timer, field: u32, n: u32) -> Timer {
-    let byte = (n % 256) as u8;
+// The place of the elected task.
+pub(crate) const ELECTED: usize = 3;
+
+// A timer's date stands behind its three bytes and one that is not used.
+const DATE: usize = TIMER + 4;
+
+// How many bytes a number of the field has.
+fn width(field: usize) -> usize
+    ensures { λ r. ⌜ r ≤ 4 ⌝ }
+{
     match field {
-        15 => r.armed = byte,
-        16 => r.owner = byte,
-        17 => r.event = byte,
-        _ => r.date = n,
+        ARRIVED | LIST => 2,
+        ELEMENT | TICKS | DATE => 4,
+        _ => 1,
     }
-    r
+}
+
+// How far an entry is from the first one.
+fn way(field: usize, entry: u32) -> usize
+    ensures { λ r. ⌜ r ≤ 4096 ⌝ }
+{
+    let n = (entry % 512) as usize;
+    match field {
+        ARRIVED | LIST => 2 * n,
+        ELEMENT => 4 * n,
+        TIMER..=DATE => 8 * n,
+        _ => n,
+    }
 }
 
 // The table with n in that field, at that entry where the field is an array. A field that is narrower takes the lowest bits.
-pub(crate) fn spoiled(mut t: Table, field: u32, entry: u32, n: u32) -> Table {
-    let byte = (n % 256) as u8;
-    let events = (n % 65536) as u16;
-    let at = (entry % 512) as usize;
-    let row = at % 32;
-    match field {
-        0 => t.tasks = byte,
-        1 => t.regions = byte,
-        2 => t.queues = byte,
-        3 => t.elected = byte,
-        4 => t.priority[row] = byte,
-        5 => t.state[row] = byte,
-        6 => t.arrived[row] = events,
-        7 => t.list[row] = events,
-        8 => t.operator[row] = byte,
-        9 => t.holder[at % 16] = byte,
-        10 => t.bound[at % 8] = byte,
-        11 => t.length[at % 8] = byte,
-        12 => t.element[at] = n,
-        13 => t.criterion[at] = byte,
-        14 => t.ticks = n,
-        19 => t.entries[at % 16] = byte,
-        _ => {
-            let r = t.timers[at % 16];
-            t.timers[at % 16] = spoiled_timer(r, field, n);
-        }
+pub(crate) fn spoiled(mut table: Block, field: usize, entry: u32, n: u32) -> Block {
+    let at = field % SIZE + way(field, entry);
+    let mut rest = n;
+    for i in at..at + width(field) {
+        table[i % SIZE] = (rest % 256) as u8;
+        rest = rest / 256;
     }
-    t
+    table
 }

@@ -1,5 +1,6 @@
 // A trial's row of numbers, read from its words.
 use super::words::value_of;
+use bytes::scan::find;
 
 // A line `TABLE CALLER OPERATION A B C PRIORITIES BOUNDS LAST`. What a line does not list is 0.
 pub(crate) struct Row {
@@ -12,20 +13,6 @@ pub(crate) struct Row {
     pub(crate) priorities: u32,
     pub(crate) bounds: u32,
     pub(crate) last: u32,
-}
-
-fn blank() -> Row {
-    Row {
-        table: 0,
-        caller: 0,
-        operation: 0,
-        a: 0,
-        b: 0,
-        c: 0,
-        priorities: 0,
-        bounds: 0,
-        last: 0,
-    }
 }
 
 // The row with n in that place.
@@ -46,17 +33,26 @@ fn with(mut r: Row, place: usize, n: u32) -> Row {
 
 // A word ends at a space.
 pub(crate) fn row_of(text: &[u8]) -> Row {
-    let mut r = blank();
+    let mut r = Row {
+        table: 0,
+        caller: 0,
+        operation: 0,
+        a: 0,
+        b: 0,
+        c: 0,
+        priorities: 0,
+        bounds: 0,
+        last: 0,
+    };
     let mut place = 0;
     let mut start = 0;
-    for i in 0..text.len() {
-        if text[i] == b' ' {
-            if start < i {
-                r = with(r, place, value_of(&text[start..i]));
-                place = place + 1;
-            }
-            start = i + 1;
+    while start < text.len() {
+        let end = find(text, start, text.len(), b' ');
+        if start < end {
+            r = with(r, place, value_of(&text[start..end]));
+            place = place + 1;
         }
+        start = end + 1;
     }
     r
 }

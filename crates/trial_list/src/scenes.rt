@@ -1,4 +1,9 @@
 // Tables that trials start from. Each but `zeros`, `wrong` and `turning` is reached from a fresh one by calls, so that it is valid.
+use super::blocks::Block;
+use super::blocks::block_of;
+use super::blocks::table_in;
+use super::damage::ELECTED;
+use super::damage::spoiled;
 use super::names::ALL;
 use super::names::ARM;
 use super::names::END;
@@ -10,14 +15,14 @@ use super::names::START;
 use super::names::WAIT;
 use executive::call;
 use executive::fresh;
+use layout::SIZE;
+use layout::TICKS;
 use rules::Call;
-use rules::Table;
-use rules::Timer;
 
 // A call whose answer nobody looks at.
-fn after(t: Table, caller: u8, operation: u8, a: u32, b: u32, c: u32) -> Table {
+fn after(t: Block, caller: u8, operation: u8, a: u32, b: u32, c: u32) -> Block {
     let d = call(
-        t,
+        table_in(t),
         Call {
             caller: caller,
             operation: operation,
@@ -26,25 +31,36 @@ fn after(t: Table, caller: u8, operation: u8, a: u32, b: u32, c: u32) -> Table {
             c: c,
         },
     );
-    d.table
+    block_of(d.table)
+}
+
+// A configuration whose answer nobody looks at.
+pub(crate) fn fresh_block<'a>(
+    tasks: u8,
+    regions: u8,
+    queues: u8,
+    priorities: &'a [u8],
+    bounds: &'a [u8],
+) -> Block {
+    let d = fresh(tasks, regions, queues, priorities, bounds);
+    block_of(d.table)
 }
 
 // The table of document 01's examples: priorities 5, 5, 2, two regions, one queue of bound 2.
-fn fresh_one() -> Table {
-    let d = fresh(3, 2, 1, &[5, 5, 2], &[2]);
-    d.table
+pub(crate) fn fresh_one() -> Block {
+    fresh_block(3, 2, 1, &[5, 5, 2], &[2])
 }
 
-fn signalled() -> Table {
+fn signalled() -> Block {
     after(fresh_one(), OUTSIDE, SIGNAL, 4, 0, 0)
 }
 
-fn full() -> Table {
+fn full() -> Block {
     let t = after(fresh_one(), 0, SEND, 0, 11, 3);
     after(t, 0, SEND, 0, 12, 9)
 }
 
-fn busy() -> Table {
+fn busy() -> Block {
     let t = after(fresh_one(), 0, START, 2, 0, 0);
     let t = after(t, 2, WAIT, 3, ALL, 0);
     let t = after(t, OUTSIDE, SIGNAL, 0, 2, 0);
@@ -53,63 +69,23 @@ fn busy() -> Table {
     after(t, 0, SEND, 0, 11, 3)
 }
 
-fn largest() -> Table {
+fn largest() -> Block {
     let mut priorities = [7u8; 32];
     priorities[31] = 0;
-    let d = fresh(32, 16, 8, &priorities, &[64; 8]);
-    d.table
+    fresh_block(32, 16, 8, &priorities, &[64; 8])
 }
 
-fn filled() -> Table {
+fn filled() -> Block {
     let mut t = largest();
     for i in 0..64u32 {
-        t = after(t, 0, SEND, 7, 100 + i, 3);
+        let next = after(t, 0, SEND, 7, 100 + i, 3);
+        t = next;
     }
-    t
-}
-
-pub(crate) fn zeros() -> Table {
-    Table {
-        tasks: 0,
-        regions: 0,
-        queues: 0,
-        elected: 0,
-        priority: [0; 32],
-        state: [0; 32],
-        arrived: [0; 32],
-        list: [0; 32],
-        operator: [0; 32],
-        holder: [0; 16],
-        entries: [0; 16],
-        bound: [0; 8],
-        length: [0; 8],
-        element: [0; 512],
-        criterion: [0; 512],
-        ticks: 0,
-        timers: [Timer {
-            armed: 0,
-            owner: 0,
-            event: 0,
-            date: 0,
-        }; 16],
-    }
-}
-
-fn wrong() -> Table {
-    let mut t = busy();
-    t.elected = 1;
-    t
-}
-
-// No log reaches the end of the counter, so that it is set.
-fn turning() -> Table {
-    let mut t = fresh_one();
-    t.ticks = 4294967294;
     t
 }
 
 // The tables by the places of their names. The last is the table that the line before left.
-pub(crate) fn table_of(scene: u32, before: Table) -> Table {
+pub(crate) fn table_of(scene: u32, before: Block) -> Block {
     match scene {
         // fresh: task 0 is ready and elected.
         0 => fresh_one(),
@@ -135,11 +111,11 @@ pub(crate) fn table_of(scene: u32, before: Table) -> Table {
         // filled: as largest, and queue 7 is at its bound, with elements 100 to 163 of criterion 3.
         10 => filled(),
         // zeros: not valid.
-        11 => zeros(),
+        11 => [0; SIZE],
         // wrong: as busy, but with task 1 as the elected one: not valid.
-        12 => wrong(),
-        // turning: as fresh, but with the counter two ticks before it starts again.
-        13 => turning(),
+        12 => spoiled(busy(), ELECTED, 0, 1),
+        // turning: as fresh, but with the counter two ticks before it starts again. No log reaches that, so that it is set.
+        13 => spoiled(fresh_one(), TICKS, 0, 4294967294),
         // armed: as fresh, and task 0 has armed timer 0 for its event 1, five ticks ahead.
         14 => after(fresh_one(), 0, ARM, 0, 1, 5),
         // then

@@ -1,10 +1,13 @@
 // One trial: its table, what is tried on it, and the rest of its line.
+use super::blocks::Block;
+use super::blocks::block_of;
+use super::blocks::same_blocks;
+use super::blocks::table_in;
 use super::configurations;
 use super::damage::spoiled;
 use super::names::CLEAR;
 use super::questions::replied;
 use super::rows::Row;
-use super::same::same;
 use super::say;
 use super::scenes::table_of;
 use executive::call;
@@ -22,28 +25,32 @@ fn call_of(r: Row) -> Call {
     }
 }
 
-// A call: the answer, and whether the table has changed.
-fn called(t: Table, k: Call) -> Table {
+// The answer of a call, and the table after it.
+fn answered(t: Table, k: Call) -> Block {
     let d = call(t, k);
-    let after = d.table;
     say::answer(d.answer);
-    say::ending(same(t, after), b"untouched", b"changed");
+    block_of(d.table)
+}
+
+// A call: the answer, and whether the table has changed.
+fn called(before: Block, k: Call) -> Block {
+    let after = answered(table_in(before), k);
+    say::ending(same_blocks(before, after), b"untouched", b"changed");
     after
 }
 
 // A query: the answer alone.
-fn asked(t: Table, r: Row) -> Table {
-    say::answer(replied(t, r));
+fn asked(table: Block, r: Row) {
+    say::answer(replied(table_in(table), r));
     say::word(b"\n");
-    t
 }
 
 // A CLEAR of event 0 by task 0, on the table with c in field a at entry b. A change that changes nothing would be no trial.
-fn damaged(t: Table, r: Row) -> Table {
-    let u = spoiled(t, r.a, r.b, r.c);
-    if same(t, u) {
+fn damaged(table: Block, r: Row) -> Block {
+    let other = spoiled(table, r.a as usize, r.b, r.c);
+    if same_blocks(table, other) {
         say::word(b": nothing changed\n");
-        return t;
+        return table;
     }
     let clear = Call {
         caller: 0,
@@ -52,19 +59,25 @@ fn damaged(t: Table, r: Row) -> Table {
         b: 0,
         c: 0,
     };
-    called(u, clear)
+    called(other, clear)
 }
 
 // The numbers from 256 on stand for the queries and the program's own operations, in the order of their names in `words`.
-pub(crate) fn trial(r: Row, before: Table) -> Table {
-    let t = table_of(r.table, before);
+pub(crate) fn trial(r: Row, before: Block) -> Block {
+    let table = table_of(r.table, before);
     let operation = r.operation;
     match operation {
-        0..=255 => called(t, call_of(r)),
-        256..=260 => asked(t, r),
-        261 => damaged(t, r),
+        0..=255 => called(table, call_of(r)),
+        256..=260 => {
+            asked(table, r);
+            table
+        }
+        261 => damaged(table, r),
         262 => configurations::benched(r),
         263 => configurations::listed(r),
-        _ => configurations::lengthened(t),
+        _ => {
+            configurations::lengthened();
+            table
+        }
     }
 }

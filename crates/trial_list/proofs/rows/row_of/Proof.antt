@@ -1,26 +1,22 @@
 -- Safety alone: a word starts and ends within the text, and there are no more words than bytes.
 use borrow.Author.Needs.{needs}
 use Prim.Native.Nat.{_≤_, _-_}
-use mathlib.Core.Path.{_≡_}
-use mathlib.Core.Logic.{⊎-elim}
 use lib.ListN.{length}
+use mathlib.Core.Logic.{⊎-elim}
 use Rattle.trial_list.proofs.rows.row_of.Statement.{statement}
 use Rattle.trial_list.proofs.rows.row_of.Tie as tie
 
 abbrev Inv-loop : tie.InvT-loop
-Inv-loop text r₀ place₀ start₀ i₀ i-end r place start i = (i-end ≡ length text) × (start ≤ i) × (place ≤ i)
+Inv-loop text r₀ place₀ start₀ r place start = place ≤ start
 
 abbrev μ-loop : tie.MeasureT-loop
-μ-loop text r₀ place₀ start₀ i₀ i-end r place start i = i-end - i
-
-blank-requires : tie.Need-blank-requires Inv-loop μ-loop
-blank-requires c κs = search needs
+μ-loop text r₀ place₀ start₀ r place start = length text - start
 
 loop-holds : tie.Need-loop-holds Inv-loop μ-loop
 loop-holds c = search needs
 
-shared-slice-read-if1 : tie.Need-shared-slice-read-if1 Inv-loop μ-loop
-shared-slice-read-if1 c = search needs
+find-requires : tie.Need-find-requires Inv-loop μ-loop
+find-requires c κs = search needs
 
 sub-value-of : tie.Need-sub-value-of Inv-loop μ-loop
 sub-value-of c = search needs
@@ -43,14 +39,11 @@ add-place c = search needs
 add-start : tie.Need-add-start Inv-loop μ-loop
 add-start c = search needs
 
-add-i : tie.Need-add-i Inv-loop μ-loop
-add-i c = search needs
-
 loop-less : tie.Need-loop-less Inv-loop μ-loop
 loop-less c = search needs
 
 loop-again : tie.Need-loop-again Inv-loop μ-loop
-loop-again c = ⊎-elim (λ w. ⊎-elim (λ v. search needs) (λ v. search needs) (w .1 .came)) (λ w. search needs) (c .if1 .came)
+loop-again c = ⊎-elim (λ w. search needs) (λ w. search needs) (c .if1 .came)
 
 returns : tie.Need-returns Inv-loop μ-loop
 returns c = search needs
@@ -61,9 +54,8 @@ row-of-spec =
     (tie.spec
     Inv-loop
     μ-loop
-    blank-requires
     loop-holds
-    shared-slice-read-if1
+    find-requires
     sub-value-of
     part-value-of-start
     part-value-of-end
@@ -71,7 +63,6 @@ row-of-spec =
     with-requires
     add-place
     add-start
-    add-i
     loop-less
     loop-again
     returns)

@@ -1,26 +1,21 @@
--- Safety alone: a line starts and ends within the text.
+-- Safety alone: a line starts and ends within the text, and the next one starts behind it.
 use borrow.Author.Needs.{needs}
-use Prim.Native.Nat.{_≤_, _-_}
-use mathlib.Core.Path.{_≡_}
-use mathlib.Core.Logic.{⊎-elim}
+use Prim.Native.Nat.{_-_}
 use lib.ListN.{length}
 use Rattle.trial_list.proofs.script.play.Statement.{statement}
 use Rattle.trial_list.proofs.script.play.Tie as tie
 
 abbrev Inv-loop : tie.InvT-loop
-Inv-loop text t₀ start₀ i₀ i-end t start i = (i-end ≡ length text) × (start ≤ i)
+Inv-loop text t₀ start₀ t start = Unit
 
 abbrev μ-loop : tie.MeasureT-loop
-μ-loop text t₀ start₀ i₀ i-end t start i = i-end - i
-
-zeros-requires : tie.Need-zeros-requires Inv-loop μ-loop
-zeros-requires c κs = search needs
+μ-loop text t₀ start₀ t start = length text - start
 
 loop-holds : tie.Need-loop-holds Inv-loop μ-loop
 loop-holds c = search needs
 
-shared-slice-read-if1 : tie.Need-shared-slice-read-if1 Inv-loop μ-loop
-shared-slice-read-if1 c = search needs
+find-requires : tie.Need-find-requires Inv-loop μ-loop
+find-requires c κs = search needs
 
 sub-played : tie.Need-sub-played Inv-loop μ-loop
 sub-played c = search needs
@@ -37,14 +32,11 @@ played-requires c κs = search needs
 add-start : tie.Need-add-start Inv-loop μ-loop
 add-start c = search needs
 
-add-i : tie.Need-add-i Inv-loop μ-loop
-add-i c = search needs
-
 loop-less : tie.Need-loop-less Inv-loop μ-loop
 loop-less c = search needs
 
 loop-again : tie.Need-loop-again Inv-loop μ-loop
-loop-again c = ⊎-elim (λ w. search needs) (λ w. search needs) (c .if1 .came)
+loop-again c = search needs
 
 returns : tie.Need-returns Inv-loop μ-loop
 returns c = search needs
@@ -55,15 +47,13 @@ play-spec =
     (tie.spec
     Inv-loop
     μ-loop
-    zeros-requires
     loop-holds
-    shared-slice-read-if1
+    find-requires
     sub-played
     part-played-start
     part-played-end
     played-requires
     add-start
-    add-i
     loop-less
     loop-again
     returns)

@@ -1,0 +1,31 @@
+// Tables as blocks of bytes: each field of a table has bytes of its own in its block (docs/BLOCK.md), so that two tables are the same
+// where their blocks are, and a block with one number changed is a table with one number changed.
+use check::same;
+use front_reading::front_in;
+use fronts::front_of;
+use fronts::table_of;
+use layout::SIZE;
+use rules::STORE;
+use rules::Table;
+use store_reading::store_in;
+use table_writing::pack_whole;
+
+pub(crate) type Block = [u8; SIZE];
+
+pub(crate) fn block_of(t: Table) -> Block {
+    let f = front_of(t);
+    let mut block = [0; SIZE];
+    pack_whole(f, &t.element, &t.criterion, &mut block);
+    block
+}
+
+pub(crate) fn table_in(block: Block) -> Table {
+    let mut element = [0u32; STORE];
+    let mut criterion = [0u8; STORE];
+    store_in(&block, &mut element, &mut criterion);
+    table_of(front_in(&block), element, criterion)
+}
+
+pub(crate) fn same_blocks(a: Block, b: Block) -> bool {
+    same(&a, &b)
+}
