@@ -1,5 +1,2 @@
--- Laws that the proofs of this crate's functions cite, and those of its callers.
-mod Accepted
-mod Done
-mod Runs
+-- Laws that the proofs of this crate's callers cite.
 pub mod Together

@@ -1,9 +1,26 @@
-// Calls on a table whose store is lent, one or a log of them: each refused with the first reason that applies, or done and the elected task
-// found afresh.
-mod checked;
-mod lent;
-mod log;
+// One call on a table whose store is lent, with the validity check before it.
+use front_validity::front_valid;
+use fronts::Front;
+use fronts::FrontDone;
+use rules::Call;
+use told_calls::call_told;
+ghost use mathlib.Core.Path.{_≡_};
+ghost use lib.ListN.{length};
+ghost use Rattle.rules.specs.Step.{step};
+ghost use Rattle.fronts.specs.Fronts.{whole, frontDone};
 
-pub use checked::call_checked;
-pub use log::LogRun;
-pub use log::run_log;
+pub fn call_checked(
+    f: Front,
+    k: Call,
+    element: &mut [u32; 512],
+    criterion: &mut [u8; 512],
+) -> FrontDone
+    requires { ⌜ length (now element) ≡ 512 ⌝ }
+    requires { ⌜ length (now criterion) ≡ 512 ⌝ }
+    ensures front { λ r. ⌜ r ≡ frontDone (step (whole f (now (element .entry)) (now (criterion .entry))) k) ⌝ }
+    ensures elements { λ _. ⌜ now (element .exit) ≡ step (whole f (now (element .entry)) (now (criterion .entry))) k .table .element ⌝ }
+    ensures criteria { λ _. ⌜ now (criterion .exit) ≡ step (whole f (now (element .entry)) (now (criterion .entry))) k .table .criterion ⌝ }
+{
+    let ok = front_valid(f, element, criterion);
+    call_told(f, ok, k, element, criterion)
+}

@@ -5,9 +5,10 @@ use fed::Fed;
 use fed::answers_left;
 use fed::fed_at;
 use first_fed::opened;
+use front_validity::front_valid;
 use fronts::front_of;
 use fronts::table_of;
-use line_calls::line_lent;
+use line_calls::line_told;
 use opening::Standing;
 use rules::Table;
 ghost use mathlib.Core.Path.{_≡_};
@@ -16,7 +17,7 @@ ghost use lib.ListN.{length};
 ghost use Rattle.fed.specs.Feed.{laterTold, laterOut, feedTold, pieceAnswers, over};
 
 // Answers the later lines from `at` on, as many as there is room for behind the `written` bytes. The table's store stays where it is, lent to
-// each call.
+// each call, and the table is looked at once: whether it is valid stays as it is from line to line.
 fn feed_later(t: Table, input: &[u8], mut at: usize, mut written: usize, out: &mut [u8]) -> Fed
     requires { ⌜ written ≤ length (now out) ⌝ }
     ensures told { λ r. ⌜ r ≡ laterTold t (now (input .entry)) at written (length (now (out .entry))) ⌝ }
@@ -25,6 +26,7 @@ fn feed_later(t: Table, input: &[u8], mut at: usize, mut written: usize, out: &m
     let mut element = t.element;
     let mut criterion = t.criterion;
     let mut f = front_of(t);
+    let known = front_valid(f, &element, &criterion);
     let mut left = answers_left(out.len(), written);
     while 0 < left {
         let a = asked_at(input, at);
@@ -33,7 +35,7 @@ fn feed_later(t: Table, input: &[u8], mut at: usize, mut written: usize, out: &m
             return fed_at(table_of(f, element, criterion), true, at, written);
         }
         let h = a.heard;
-        let d = line_lent(f, h, &mut element, &mut criterion);
+        let d = line_told(f, known, h, &mut element, &mut criterion);
         put_answer(out, written, d.answer);
         f = d.front;
         at = next;

@@ -14,7 +14,7 @@ use Rattle.layout.proofs.Sizes.{Sized, unpacked-sized}
 use Rattle.table_writing.specs.Wholes.{wholePut}
 use Rattle.layout_theorems.proofs.Writing.{whole-put}
 use Rattle.block_call.proofs.Outcomes.{step-sized}
-use Rattle.calls.specs.Log.{callAt, replayed, laps, logged}
+use Rattle.call_logs.specs.Log.{callAt, replayed, laps, logged}
 use Rattle.replay.specs.Replay.{replayBlock}
 
 -- the arrays keep their lengths

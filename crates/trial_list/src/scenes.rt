@@ -78,6 +78,7 @@ fn largest() -> Block {
 fn filled() -> Block {
     let mut t = largest();
     for i in 0..64u32 {
+        // A loop can't lay a call's result into an array that is there: it goes by a local of its own.
         let next = after(t, 0, SEND, 7, 100 + i, 3);
         t = next;
     }

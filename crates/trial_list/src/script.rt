@@ -27,6 +27,7 @@ fn tried(text: &[u8], t: Block) -> Block {
 fn played(text: &[u8], t: Block) -> Block {
     let first = byte_at(text, 0);
     match first {
+        // An empty line has no first byte, and gets 0 for it.
         0 | b'/' => t,
         b'#' => {
             say::line(text);
