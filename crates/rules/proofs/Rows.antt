@@ -80,12 +80,12 @@ rightFrom does t (s ∷ ss) shows =
 begun : Done
 begun = fresh 3 2 1 (5 ∷ 5 ∷ 2 ∷ []) (2 ∷ [])
 
-right : Does → Run → Bool
-right does r = rightFrom does (begun .table) (r .says) (r .shows)
+right : Does → Table → Run → Bool
+right does t r = rightFrom does t (r .says) (r .shows)
 
 -- each run of each row gives what is said of it, and the fresh table is accepted
 pub rowsRight : List (List Run) → Does → Bool
-rowsRight rows does = sameAnswer (begun .answer) (record { status = 0; value = 0; key = 0; elected = 0 }) && every (every (right does)) rows
+rowsRight rows does = let b = begun in sameAnswer (b .answer) (record { status = 0; value = 0; key = 0; elected = 0 }) && every (every (right does (b .table))) rows
 
 -- "P1: task 0 STARTs 2: elected 2. STARTing 1 instead: elected 0."
 abbrev P1 : List Run
