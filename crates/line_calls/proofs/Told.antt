@@ -1,14 +1,14 @@
 -- A line that is told whether the table is valid, as it is, does what it asks for, and whether the table is valid stays as it is.
 use Prim.Native.Nat.{ℕ}
-use mathlib.Core.Path.{_≡_, refl, sym, ap, _∙_}
+use mathlib.Core.Path.{_≡_, refl, sym, _∙_}
 use mathlib.Core.Bool.{Bool, true, false}
 use mathlib.Core.List.{List}
 use Rattle.rules.specs.declared.Table.{Table}
 use Rattle.rules.specs.Validity.{valid}
 use Rattle.theorems.proofs.Kept.{valid-same}
-use Rattle.fronts.specs.declared.Front.{Front}
 use Rattle.fronts.specs.declared.FrontDone.{FrontDone}
 use Rattle.fronts.specs.Fronts.{whole, frontDone}
+use Rattle.told_calls.proofs.Cases.{in-parts}
 use Rattle.told_calls.proofs.Told.{told-is}
 use Rattle.bench_line.specs.declared.Heard.{Heard}
 use Rattle.bench_line.specs.Steps.{malformed, heardDone}
@@ -27,8 +27,7 @@ module _ (ok : Bool) (t : Table) (h : Heard) where
   pub heard-parts : ok ≡ valid t → {d : FrontDone} {es cs : List ℕ}
       → (d ≡ frontDone (heardTold ok t h)) × ((es ≡ heardTold ok t h .table .element) × (cs ≡ heardTold ok t h .table .criterion))
       → (d ≡ frontDone (heardDone t h)) × ((es ≡ heardDone t h .table .element) × (cs ≡ heardDone t h .table .criterion))
-  heard-parts is (p, (q, r)) =
-      let same = heard-told is in (p ∙ ap frontDone same, (q ∙ ap (λ e. e .table .element) same, r ∙ ap (λ e. e .table .criterion) same))
+  heard-parts is = in-parts (heard-told is)
 
 heard-valid : (t : Table) (h : Heard) → valid (heardDone t h .table) ≡ valid t
 unfolding heardDone malformed

@@ -1,5 +1,5 @@
 -- That a call told the truth is the step of the rules, and the laws that the code's proof cites.
 mod Accepted
 mod Done
-mod Cases
+pub mod Cases
 pub mod Told
