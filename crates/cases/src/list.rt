@@ -1,46 +1,15 @@
 // The list of cases, line by line.
-use super::feed::Place;
-use super::feed::ended;
-use super::parts::part_fed;
+use super::feed::run;
+use super::input::laid;
 use super::words::size_of;
 use bytes::scan::find;
 use libc::STDOUT_FILENO;
-use session::at_start;
 ghost use Prim.Native.Nat.{_≤_};
-ghost use lib.ListN.{length};
 
-// An input: its parts in turn, as the words from a place on name them, and its end.
-fn run(text: &[u8], first: usize, size: usize, buffer: &mut [u8], out: &mut [u8])
-    requires { ⌜ (1 ≤ size) × (size ≤ 4096) × (4225 ≤ length (now buffer)) ⌝ }
-{
-    let mut s = at_start();
-    let mut held = 0;
-    let mut from = first;
-    while from < text.len() {
-        let to = find(text, from, text.len(), b' ');
-        let p = part_fed(
-            &text[from..to],
-            Place {
-                standing: s,
-                held: held,
-            },
-            size,
-            buffer,
-            out,
-        );
-        s = p.standing;
-        held = p.held;
-        from = to + 1;
-    }
-    ended(s, held, buffer, out);
-}
-
-// The heading of a case: the words from a place on, and the size.
-fn write_heading(text: &[u8], from: usize, size: usize)
-    requires { ⌜ from ≤ length (now text) ⌝ }
-{
+// The heading of a case: its parts, and the size.
+fn write_heading(parts: &[u8], size: usize) {
     io::write_all(STDOUT_FILENO, b"# ");
-    io::write_all(STDOUT_FILENO, &text[from..]);
+    io::write_all(STDOUT_FILENO, parts);
     io::write_all(STDOUT_FILENO, b", in pieces of ");
     io::print_decimal(STDOUT_FILENO, size as u64);
     io::write_all(STDOUT_FILENO, b"\n");
@@ -57,21 +26,19 @@ fn behind(at: usize, end: usize) -> usize
     at
 }
 
-// A case: its heading, and the answers to its input.
-fn case(text: &[u8], buffer: &mut [u8], out: &mut [u8])
-    requires { ⌜ 4225 ≤ length (now buffer) ⌝ }
-{
+// A case: its heading, and the answers to its input, which is put together whole.
+fn case(text: &[u8]) {
     let space = find(text, 0, text.len(), b' ');
     let size = size_of(&text[0..space]);
     let from = behind(space, text.len());
-    write_heading(text, from, size);
-    run(text, from, size, buffer, out);
+    write_heading(&text[from..], size);
+    let mut input = [0u8; 131072];
+    let n = laid(&text[from..], &mut input);
+    run(&input[0..n], size);
 }
 
 // A line of the list. A heading is written as it is; an empty line and a remark, which starts with `//`, are not.
-fn played(text: &[u8], buffer: &mut [u8], out: &mut [u8])
-    requires { ⌜ 4225 ≤ length (now buffer) ⌝ }
-{
+fn played(text: &[u8]) {
     if text.len() == 0 {
         return;
     }
@@ -80,18 +47,16 @@ fn played(text: &[u8], buffer: &mut [u8], out: &mut [u8])
         io::write_all(STDOUT_FILENO, text);
         io::write_all(STDOUT_FILENO, b"\n");
     } else if first != b'/' {
-        case(text, buffer, out);
+        case(text);
     }
 }
 
 // A line ends at its line feed, or with the text.
-pub(crate) fn play(text: &[u8], buffer: &mut [u8], out: &mut [u8])
-    requires { ⌜ 4225 ≤ length (now buffer) ⌝ }
-{
+pub(crate) fn play(text: &[u8]) {
     let mut from = 0;
     while from < text.len() {
         let to = find(text, from, text.len(), b'\n');
-        played(&text[from..to], buffer, out);
+        played(&text[from..to]);
         from = to + 1;
     }
 }

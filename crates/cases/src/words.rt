@@ -1,5 +1,6 @@
 // The words of a list's line that are numbers.
-ghost use Prim.Native.Nat.{_≤_};
+ghost use mathlib.Core.Path.{_≡_};
+ghost use Prim.Native.Nat.{_≤_, min};
 
 // A number in decimal. A digit's value is what its byte leaves over 16.
 pub(crate) fn number_of(word: &[u8]) -> usize
@@ -21,6 +22,12 @@ pub(crate) fn is_number(word: &[u8]) -> bool {
     (b'0' <= first) & (first <= b'9')
 }
 
+pub(crate) fn lesser(x: usize, y: usize) -> usize
+    ensures { λ r. ⌜ r ≡ min x y ⌝ }
+{
+    if x < y { x } else { y }
+}
+
 // The size of the pieces: 4096 where the word says none that the buffer has room for.
 pub(crate) fn size_of(word: &[u8]) -> usize
     ensures { λ r. ⌜ (1 ≤ r) × (r ≤ 4096) ⌝ }
@@ -29,8 +36,5 @@ pub(crate) fn size_of(word: &[u8]) -> usize
     if n == 0 {
         return 4096;
     }
-    if 4096 < n {
-        return 4096;
-    }
-    n
+    lesser(n, 4096)
 }

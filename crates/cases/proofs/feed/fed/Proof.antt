@@ -4,6 +4,21 @@ use Rattle.session.proofs.Buffers.{held-small, written-within}
 use Rattle.cases.proofs.feed.fed.Statement.{statement}
 use Rattle.cases.proofs.feed.fed.Tie as tie
 
+sub-copy : tie.Need-sub-copy
+sub-copy c = search needs
+
+part-copy-start : tie.Need-part-copy-start
+part-copy-start c = search needs
+
+part-copy-end : tie.Need-part-copy-end
+part-copy-end c = search needs
+
+copy-requires : tie.Need-copy-requires
+copy-requires c κs = search needs
+
+add-piece : tie.Need-add-piece
+add-piece c = search needs
+
 piece-requires : tie.Need-piece-requires
 piece-requires c κs = search needs
 
@@ -26,12 +41,17 @@ same-length-2 : tie.Need-same-length-2
 same-length-2 c = search needs
 
 returns : tie.Need-returns
-returns c = held-small _ _ _ _ (c .before .before .before .before .before .before .before .before .piece .ensures .0)
+returns c = held-small _ _ _ _ (c .before .before .before .before .before .before .before .piece .ensures .0)
 
 pub fed-spec : {M : Type 1} → statement M
 fed-spec =
     tie.close
     (tie.spec
+    sub-copy
+    part-copy-start
+    part-copy-end
+    copy-requires
+    add-piece
     piece-requires
     sub-write-all
     part-write-all-start

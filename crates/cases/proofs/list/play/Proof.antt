@@ -1,16 +1,15 @@
--- Safety alone: a line of the list starts and ends within the text, and the buffers keep their lengths.
+-- Safety alone: a line starts and ends within the text.
 use borrow.Author.Needs.{needs}
 use Prim.Native.Nat.{_-_}
-use mathlib.Core.Path.{_≡_}
 use lib.ListN.{length}
 use Rattle.cases.proofs.list.play.Statement.{statement}
 use Rattle.cases.proofs.list.play.Tie as tie
 
 abbrev Inv-loop : tie.InvT-loop
-Inv-loop text buffer₀ out₀ from₀ buffer out from = (length buffer ≡ length buffer₀) × (length out ≡ length out₀)
+Inv-loop text from₀ from = Unit {0}
 
 abbrev μ-loop : tie.MeasureT-loop
-μ-loop text buffer₀ out₀ from₀ buffer out from = length text - from
+μ-loop text from₀ from = length text - from
 
 loop-holds : tie.Need-loop-holds Inv-loop μ-loop
 loop-holds c = search needs
@@ -39,12 +38,6 @@ loop-less c = search needs
 loop-again : tie.Need-loop-again Inv-loop μ-loop
 loop-again c = search needs
 
-same-length : tie.Need-same-length Inv-loop μ-loop
-same-length c = search needs
-
-same-length-2 : tie.Need-same-length-2 Inv-loop μ-loop
-same-length-2 c = search needs
-
 returns : tie.Need-returns Inv-loop μ-loop
 returns c = search needs
 
@@ -63,6 +56,4 @@ play-spec =
     add-from
     loop-less
     loop-again
-    same-length
-    same-length-2
     returns)

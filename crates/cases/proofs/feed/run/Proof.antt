@@ -1,0 +1,113 @@
+-- Safety alone: a piece lies within the input and fits behind what is held, and no more than 129 bytes are held.
+use native.Mathlib.Omega.{arith}
+use Prim.Native.Nat.{_≤_, _-_}
+use mathlib.Core.Path.{_≡_}
+use lib.ListN.{length}
+use Rattle.endings.proofs.Ends.{ending-within}
+use Rattle.cases.proofs.feed.run.Statement.{statement}
+use Rattle.cases.proofs.feed.run.Tie as tie
+
+abbrev Inv-loop : tie.InvT-loop
+Inv-loop input size buffer₀ out₀ s₀ held₀ at₀ buffer out s held at = (at ≤ length input) × (held ≤ 129) × (length buffer ≡ 4225) × (length out ≡ 63375)
+
+abbrev μ-loop : tie.MeasureT-loop
+μ-loop input size buffer₀ out₀ s₀ held₀ at₀ buffer out s held at = length input - at
+
+at-start-requires : tie.Need-at-start-requires Inv-loop μ-loop
+at-start-requires c κs = omega arith
+
+loop-holds : tie.Need-loop-holds Inv-loop μ-loop
+loop-holds c = omega arith
+
+sub-lesser : tie.Need-sub-lesser Inv-loop μ-loop
+sub-lesser c = omega arith
+
+lesser-requires : tie.Need-lesser-requires Inv-loop μ-loop
+lesser-requires c κs = omega arith
+
+add-to : tie.Need-add-to Inv-loop μ-loop
+add-to c = omega arith
+
+sub-fed : tie.Need-sub-fed Inv-loop μ-loop
+sub-fed c = omega arith
+
+part-fed-start : tie.Need-part-fed-start Inv-loop μ-loop
+part-fed-start c = omega arith
+
+part-fed-end : tie.Need-part-fed-end Inv-loop μ-loop
+part-fed-end c = omega arith
+
+slice-aggregate-fed : tie.Need-slice-aggregate-fed Inv-loop μ-loop
+slice-aggregate-fed c = omega arith
+
+slice-aggregate-fed-2 : tie.Need-slice-aggregate-fed-2 Inv-loop μ-loop
+slice-aggregate-fed-2 c = omega arith
+
+fed-requires : tie.Need-fed-requires Inv-loop μ-loop
+fed-requires c κs = omega arith
+
+loop-less : tie.Need-loop-less Inv-loop μ-loop
+loop-less c = omega arith
+
+loop-again : tie.Need-loop-again Inv-loop μ-loop
+loop-again c = omega arith
+
+sub-finish : tie.Need-sub-finish Inv-loop μ-loop
+sub-finish c = omega arith
+
+part-finish-start : tie.Need-part-finish-start Inv-loop μ-loop
+part-finish-start c = omega arith
+
+part-finish-end : tie.Need-part-finish-end Inv-loop μ-loop
+part-finish-end c = omega arith
+
+slice-aggregate-finish : tie.Need-slice-aggregate-finish Inv-loop μ-loop
+slice-aggregate-finish c = omega arith
+
+finish-requires : tie.Need-finish-requires Inv-loop μ-loop
+finish-requires c κs = omega arith
+
+sub-write-all : tie.Need-sub-write-all Inv-loop μ-loop
+sub-write-all c = omega arith
+
+part-write-all-start : tie.Need-part-write-all-start Inv-loop μ-loop
+part-write-all-start c = omega arith
+
+part-write-all-end : tie.Need-part-write-all-end Inv-loop μ-loop
+part-write-all-end c = let w = ending-within _ _ _ _ (c .before .before .finish .ensures .0) in omega arith
+
+write-all-requires : tie.Need-write-all-requires Inv-loop μ-loop
+write-all-requires c κs = omega arith
+
+returns : tie.Need-returns Inv-loop μ-loop
+returns c = omega arith
+
+pub run-spec : {M : Type 1} → statement M
+run-spec =
+    tie.close
+    (tie.spec
+    Inv-loop
+    μ-loop
+    at-start-requires
+    loop-holds
+    sub-lesser
+    lesser-requires
+    add-to
+    sub-fed
+    part-fed-start
+    part-fed-end
+    slice-aggregate-fed
+    slice-aggregate-fed-2
+    fed-requires
+    loop-less
+    loop-again
+    sub-finish
+    part-finish-start
+    part-finish-end
+    slice-aggregate-finish
+    finish-requires
+    sub-write-all
+    part-write-all-start
+    part-write-all-end
+    write-all-requires
+    returns)
