@@ -1,8 +1,8 @@
 // ENTER and EXIT, once accepted: one region changes, and the elected task is found afresh.
-use effects::region_after;
 use election::elected_by;
 use fronts::Front;
 use fronts::FrontDone;
+use region_effects::region_after;
 use regions::held_by;
 use rules::Answer;
 use rules::Call;

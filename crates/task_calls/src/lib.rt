@@ -1,8 +1,5 @@
 // START, STOP, END, SIGNAL, WAIT and CLEAR, once accepted: one task changes.
 use conditions::met_by;
-use effects::target_of;
-use effects::task_after;
-use effects::timers_left;
 use election::elected_by;
 use fronts::Front;
 use fronts::FrontDone;
@@ -11,6 +8,9 @@ use regions::held_by;
 use rules::Answer;
 use rules::Call;
 use rules::Task;
+use task_effects::target_of;
+use task_effects::task_after;
+use task_effects::timers_left;
 ghost use mathlib.Core.Path.{_≡_};
 ghost use Rattle.fronts.specs.Fronts.{frontDone, storeless};
 ghost use Rattle.task_calls.specs.Made.{taskMade};

@@ -9,7 +9,7 @@ use Rattle.rules.specs.Numbers.{timerRoom}
 use Rattle.rules.specs.Timers.{later, rung}
 use Rattle.rules.specs.Tables.{timerOf, withTimers, settled}
 use Rattle.ringing.specs.Signals.{rungRows, rowsOf, withRows}
-use Rattle.effects.specs.Effects.{timerAfter}
+use Rattle.timer_effects.specs.Effects.{timerAfter}
 use Rattle.fronts.specs.Fronts.{told}
 
 abbrev pub timerMadeAt : ℕ → Table → Call → Done

@@ -1,9 +1,9 @@
 // ARM and DISARM. Neither tasks nor holders change, so that nobody is elected afresh.
-use effects::timer_after;
 use fronts::Front;
 use fronts::FrontDone;
 use rules::Answer;
 use rules::Call;
+use timer_effects::timer_after;
 ghost use mathlib.Core.Path.{_≡_};
 ghost use Rattle.fronts.specs.Fronts.{frontDone, storeless};
 ghost use Rattle.timer_calls.specs.Made.{timerMade};

@@ -14,7 +14,7 @@ use Rattle.rules.specs.Numbers.{taskRoom, nobody, ENTER, SEND, RETRIEVE, TICK}
 use Rattle.fronts.specs.declared.Front.{Front}
 use Rattle.fronts.specs.declared.FrontDone.{FrontDone}
 use Rattle.fronts.specs.Fronts.{whole, frontDone, storeless}
-use Rattle.effects.specs.Effects.{target}
+use Rattle.task_effects.specs.Effects.{target}
 use Rattle.task_calls.specs.Made.{keepsState, stateKept, stateChanged, taskMadeAt, taskMade}
 use Rattle.region_calls.specs.Made.{regionMade}
 use Rattle.queue_calls.specs.Made.{sendMade, retrieveMade}

@@ -1,0 +1,2 @@
+-- The definitions that this crate's contracts cite beside those of the rules.
+pub mod Effects

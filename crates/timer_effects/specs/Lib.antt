@@ -1,0 +1,2 @@
+-- The definition that this crate's contract cites.
+pub mod Effects

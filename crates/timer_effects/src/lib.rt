@@ -1,0 +1,19 @@
+// What an accepted ARM or DISARM does to one timer.
+use arming::armed_timer;
+use arming::disarmed_timer;
+use clock::later_by;
+use rules::Call;
+use rules::Timer;
+ghost use mathlib.Core.Path.{_≡_};
+ghost use Rattle.timer_effects.specs.Effects.{timerAfter};
+
+// The timer after ARM or DISARM.
+pub fn timer_after(k: Call, ticks: u32, r: Timer) -> Timer
+    ensures { λ r1. ⌜ r1 ≡ timerAfter k ticks r ⌝ }
+{
+    let date = later_by(ticks, k.c);
+    if k.operation == 10 {
+        return armed_timer(k.caller, (k.b % 256) as u8, date);
+    }
+    disarmed_timer(k.caller, r)
+}
