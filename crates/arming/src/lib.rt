@@ -1,7 +1,5 @@
 // What a call finds of the timers, and what STOP makes of all of them.
-pub use one_timer::armed_timer;
-pub use one_timer::disarmed_timer;
-pub use one_timer::idle_if;
+use one_timer::disarmed_timer;
 use rules::TIMERS;
 use rules::Timer;
 ghost use mathlib.Core.Path.{_≡_};

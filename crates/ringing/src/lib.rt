@@ -1,7 +1,7 @@
 // A tick: the timers that are due signal their events to the tasks that own them, and are idle again.
-use arming::idle_if;
 use clock::ahead_of;
 use conditions::signalled_by;
+use one_timer::idle_if;
 use rules::TASKS;
 use rules::TIMERS;
 use rules::Task;

@@ -1,7 +1,7 @@
 // What an accepted ARM or DISARM does to one timer.
-use arming::armed_timer;
-use arming::disarmed_timer;
 use clock::later_by;
+use one_timer::armed_timer;
+use one_timer::disarmed_timer;
 use rules::Call;
 use rules::Timer;
 ghost use mathlib.Core.Path.{_≡_};
