@@ -13,8 +13,8 @@ use Rattle.layout.specs.Layout.{blockSize, unpacked, packed, unusedZero}
 use Rattle.layout.proofs.Sizes.{Sized, unpacked-sized}
 use Rattle.table_writing.specs.Wholes.{wholePut}
 use Rattle.layout_theorems.proofs.Writing.{whole-put}
-use Rattle.block_call.proofs.Outcomes.{step-sized}
-use Rattle.call_logs.specs.Log.{callAt, replayed, laps, logged}
+use Rattle.layout_theorems.proofs.Lengths.{step-sized}
+use Rattle.replay.specs.Log.{callAt, replayed, laps, logged}
 use Rattle.replay.specs.Replay.{replayBlock}
 
 -- the arrays keep their lengths

@@ -1,2 +1,3 @@
--- A log of calls on a table, one after the other.
+-- The definitions that this crate's contract cites: a log of calls on a table, and on a block.
+pub mod Log
 pub mod Replay

@@ -5,7 +5,7 @@ use mathlib.Core.List.{List}
 use lib.Dec.{eqb}
 use lib.ListN.{length}
 use Rattle.layout.specs.Layout.{blockSize, unpacked, packed, unusedZero}
-use Rattle.call_logs.specs.Log.{Replayed, laps, logged}
+use Rattle.replay.specs.Log.{Replayed, laps, logged}
 
 pub record Outcome : Type 0 where
   pub block : List ℕ

@@ -1,5 +1,5 @@
 // A replay, for C or Rust to call with the block that holds the table.
-use call_logs::run_log;
+use super::log::run_log;
 use front_reading::front_in;
 use layout::SIZE;
 use layout::unused_zero;

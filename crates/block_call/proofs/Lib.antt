@@ -1,2 +1,0 @@
--- Laws that the proof of `call_block` cites.
-pub mod Outcomes

@@ -1,2 +1,0 @@
--- The definitions that this crate's contracts cite beside those of the rules.
-pub mod Log
