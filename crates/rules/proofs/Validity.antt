@@ -1,6 +1,6 @@
 -- Validity by subject: the rules of the list gathered by what they speak of, tasks, regions, queues, as a check goes through them.
 use Prim.Native.Nat.{ℕ, _-_, _<_, _≤_}
-use mathlib.Core.Path.{_≡_, refl, sym, _∙_}
+use mathlib.Core.Path.{_≡_, refl, sym, _∙_, ap}
 use mathlib.Core.Logic.{_≢_, ⊎-elim}
 use mathlib.Core.Bool.{Bool, true, false, cond, not, _&&_, _||_, false≢true}
 use mathlib.Core.List.{List, [], _∷_}
@@ -15,11 +15,11 @@ use Rattle.rules.specs.Events.{met}
 use Rattle.rules.specs.Tasks.{waiting, isWaiting}
 use Rattle.rules.specs.Regions.{held, occupied, holderOf}
 use Rattle.rules.specs.Queues.{behind}
-use Rattle.rules.specs.Election.{lowest, readyAt, isBest, bestReady, election}
+use Rattle.rules.specs.Election.{lowest, readyAt, isBest, bestReady}
 use Rattle.rules.specs.Tables.{taskOf, lengthOf, boundOf, electionOf}
 use Rattle.rules.specs.Validity.{shaped, countsInRange, prioritiesInRange, boundInRange, boundsInRange, listsInRange, operatorsInRange, holdersInRange, criteriaInRange, zeroPast, zeroPastCounts, zeroPastLengths, restRight, stateRight, statesRight, entriesFit, entriesRight, oneHolder, holderReady, holderElected, lengthsRight, electedRight, timersRight, valid}
 use Rattle.rules.proofs.Bools.{given, shown, and-left, and-right, both, or-cases, or-first, or-second, same-test}
-use Rattle.rules.proofs.Election.{lowest-is}
+use Rattle.rules.proofs.Election.{lowest-is, election-held, election-free}
 use Rattle.rules.proofs.Queues.{Sound}
 use Rattle.rules.proofs.Counts.{below-at, below-all, within-at, within-all, past-at, past-all}
 
@@ -428,11 +428,11 @@ module _ (t : Table) (p : Parts t) where
       (or-cases (isZero (held (t .holder))) _ (p .holder))
 
   holder-is-elected : holderElected (t .elected) (t .holder) ≡ true
-  unfolding holderElected election
+  unfolding holderElected
   holder-is-elected = go (occupied (t .holder)) refl
     where
       go : (b : Bool) → occupied (t .holder) ≡ b → (not (occupied (t .holder)) || eqb (t .elected) (holderOf (t .holder))) ≡ true
-      go true e = rw e (eq-eqb _ _ (p .elected ∙ rw e refl))
+      go true e = rw e (eq-eqb _ _ (p .elected ∙ election-held _ _ _ e))
       go false e = rw e refl
 
   rules-gathered : Rules t
@@ -567,15 +567,15 @@ bound-below t p q l k = leb-true (boundOf t q) places (and-right (ltb 0 (boundOf
 
 -- the elected task, if there is one, is ready, and so below the count
 pub elected-ready : (t : Table) → Parts t → t .elected ≢ nobody → readyAt (t .state) (t .elected) ≡ true
-unfolding election holderRight bestReady isBest
+unfolding holderRight bestReady isBest
 elected-ready t p n = rw (p .elected) (go (isZero (held (t .holder))) refl)
   where
     best : lowest taskRoom (isBest (t .state) (t .priority)) ≢ nobody → readyAt (t .state) (lowest taskRoom (isBest (t .state) (t .priority))) ≡ true
     best m = ⊎-elim (λ q. absurd (m (q .0))) (λ q. and-left _ _ (q .passing)) (lowest-is (isBest (t .state) (t .priority)) taskRoom (omega arith))
 
     go : (b : Bool) → isZero (held (t .holder)) ≡ b → readyAt (t .state) (electionOf t) ≡ true
-    go true e = rw e (best (λ z. n (p .elected ∙ rw e z)))
-    go false e = rw e (and-right (leb (held (t .holder)) (t .tasks)) _ (rw e at (p .holder)))
+    go true e = let free = election-free (t .state) (t .priority) (t .holder) (ap not e) in rw free (best (λ z. n (p .elected ∙ free ∙ z)))
+    go false e = rw (election-held (t .state) (t .priority) (t .holder) (ap not e)) (and-right (leb (held (t .holder)) (t .tasks)) _ (rw e at (p .holder)))
 
 pub elected-below : (t : Table) → Parts t → t .elected ≢ nobody → t .elected < t .tasks
 elected-below t p n = ready-below t (p .tasks) (state-length t (p .shape)) (t .elected) (elected-ready t p n)

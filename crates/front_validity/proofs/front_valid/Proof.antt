@@ -12,7 +12,7 @@ valid-of-requires : tie.Need-valid-of-requires
 valid-of-requires c κs = let l = long (c .before .before .before .before .before .before .before .before .before .before .before) in omega arith
 
 returns : tie.Need-returns
-returns c = search needs
+returns c = c .valid-of .ensures
 
 pub front-valid-spec : {M : Type 1} → statement M
 front-valid-spec = tie.close (tie.spec valid-of-requires returns)

@@ -1,7 +1,9 @@
 -- One part over the block after the other.
 use borrow.Author.Needs.{needs}
-use mathlib.Core.Path.{refl}
-use Rattle.table_writing.specs.Wholes.{wholePut}
+use mathlib.Core.Path.{ap, _∙_}
+use Rattle.packing.specs.Bytes.{put}
+use Rattle.layout.specs.Layout.{elementPlace, criterionPlace}
+use Rattle.table_writing.specs.Wholes.{tailPut, wholePut}
 use Rattle.table_writing.proofs.pack_whole.Statement.{statement}
 use Rattle.table_writing.proofs.pack_whole.Tie as tie
 
@@ -22,7 +24,7 @@ same-length c = search needs
 
 returns : tie.Need-returns
 unfolding wholePut
-returns c = rw (c .before .before .put-tail .ensures, c .before .before .before .before .before .before .before .put-bytes .ensures, c .before .before .before .before .before .before .before .before .before .before .before .put-words .ensures, c .before .before .before .before .before .before .before .before .before .before .before .before .before .before .before .put-head .ensures) refl
+returns c = c .before .before .put-tail .ensures ∙ ap (tailPut _ _) (c .before .before .before .before .before .before .before .put-bytes .ensures ∙ ap (put 1 criterionPlace _) (c .before .before .before .before .before .before .before .before .before .before .before .put-words .ensures ∙ ap (put 4 elementPlace _) (c .before .before .before .before .before .before .before .before .before .before .before .before .before .before .before .put-head .ensures)))
 
 pub pack-whole-spec : {M : Type 1} → statement M
 pack-whole-spec =

@@ -1,6 +1,8 @@
 -- One part over the block after the other.
 use borrow.Author.Needs.{needs}
-use mathlib.Core.Path.{refl}
+use mathlib.Core.Path.{ap, _∙_}
+use Rattle.packing.specs.Timers.{timersPut}
+use Rattle.layout.specs.Layout.{timersPlace}
 use Rattle.table_writing.specs.Wholes.{tailPut}
 use Rattle.table_writing.proofs.put_tail.Statement.{statement}
 use Rattle.table_writing.proofs.put_tail.Tie as tie
@@ -19,7 +21,7 @@ same-length c = search needs
 
 returns : tie.Need-returns
 unfolding tailPut
-returns c = rw (c .before .before .put-timers .ensures, c .before .before .before .before .before .before .put-words .ensures) refl
+returns c = c .before .before .put-timers .ensures ∙ ap (timersPut timersPlace _) (c .before .before .before .before .before .before .put-words .ensures)
 
 pub put-tail-spec : {M : Type 1} → statement M
 put-tail-spec =
