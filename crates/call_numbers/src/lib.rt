@@ -3,46 +3,28 @@ use rules::Call;
 ghost use mathlib.Core.Path.{_≡_};
 ghost use Rattle.rules.specs.Refusals.{missing, leaves};
 
-// 14: a number of the call that stands for nothing. The numbers are compared as they come, 32 bits wide. Each operation has its entry, as in
-// the definition's list; past the last operation nothing is missing.
+// 14: a number of the call that stands for nothing. The numbers are compared as they come, 32 bits wide.
 pub fn missing_of(tasks: u8, regions: u8, queues: u8, k: Call) -> bool
     ensures { λ r. ⌜ r ≡ missing tasks regions queues k ⌝ }
 {
     let a = k.a;
-    let b = k.b;
-    let c = k.c;
-    let count = tasks as u32;
-    let task = count <= a;
-    let signal = (16 <= a) | (count <= b);
-    let list = (a == 0) | (65535 < a);
-    let region = (regions as u32) <= a;
-    let queue = (queues as u32) <= a;
-    let send = queue | (16 <= c);
-    let retrieve = queue | (16 < c);
-    let timer = 16 <= a;
-    let arm = timer | ((16 <= b) | ((c == 0) | (2147483647 < c)));
-    let entries = [
-        // START, STOP, END
-        task,
-        task,
-        false,
-        // SIGNAL, WAIT, CLEAR
-        signal,
-        list,
-        list,
-        // ENTER, EXIT
-        region,
-        region,
-        // SEND, RETRIEVE
-        send,
-        retrieve,
-        // ARM, DISARM, TICK
-        arm,
-        timer,
-        false,
-    ];
     let operation = k.operation;
-    (operation < 13) & entries[(operation % 13) as usize]
+    match operation {
+        0 => !(a < (tasks as u32)),
+        1 => !(a < (tasks as u32)),
+        2 => false,
+        3 => !(a < 16) | !(k.b < (tasks as u32)),
+        4 => (a == 0) | (65535 < a),
+        5 => (a == 0) | (65535 < a),
+        6 => !(a < (regions as u32)),
+        7 => !(a < (regions as u32)),
+        8 => !(a < (queues as u32)) | !(k.c < 16),
+        9 => !(a < (queues as u32)) | (16 < k.c),
+        10 => !(a < 16) | (!(k.b < 16) | ((k.c == 0) | (2147483647 < k.c))),
+        11 => !(a < 16),
+        12 => false,
+        _ => false,
+    }
 }
 
 // 16, but for the regions: the calls by which the caller would stop running.
