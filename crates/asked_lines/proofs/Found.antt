@@ -1,5 +1,5 @@
 -- Laws of what a line asks for, by the line that the code found.
-use Prim.Native.Nat.{ℕ, _-_}
+use Prim.Native.Nat.{ℕ}
 use mathlib.Core.Path.{_≡_, sym, ap, _∙_}
 use mathlib.Core.List.{List}
 use Rattle.lines.specs.declared.ends.Line.{Line}

@@ -5,20 +5,18 @@ use mathlib.Core.Bool.{Bool, true, false, not, and-false, _&&_}
 use mathlib.Core.List.{List}
 use lib.Dec.{eqb}
 use lib.ListN.{length}
-use borrow.Author.Tests.{ne-eqb, lt-leb, eqb-true}
+use borrow.Author.Tests.{ne-eqb, lt-leb}
 use Rattle.rules.specs.declared.Table.{Table}
 use Rattle.rules.specs.declared.Call.{Call}
 use Rattle.rules.specs.Words.{every}
-use Rattle.rules.specs.Step.{step}
 use Rattle.digits.specs.Digits.{isDigit}
 use Rattle.lines.specs.Ends.{longest}
 use Rattle.call_fields.specs.Calls.{callLength, callIn}
-use Rattle.opening.specs.Start.{firstRefused}
 use Rattle.first_lines.specs.First.{plain, firstReasons, firstLine}
 use Rattle.first_lines.proofs.Plain.{not-true, not-false}
 use Rattle.opening.specs.declared.Standing.{Standing}
 use Rattle.bench_line.specs.declared.Heard.{Heard}
-use Rattle.bench_line.specs.Steps.{malformed, callLine, tooLong, lineDone, asking, nothingHeard, heard, heardDone}
+use Rattle.bench_line.specs.Steps.{callLine, tooLong, lineDone, asking, nothingHeard, heard, heardDone}
 
 -- ---- what a line asks for
 

@@ -1,5 +1,5 @@
 -- Laws of the number that digits stand for: how large it is, and a turn and the end of the loop over them.
-use Prim.Native.Nat.{ℕ, suc, _+_, _*_, _-_, _^_, _<_, _≤_}
+use Prim.Native.Nat.{ℕ, suc, _+_, _*_, _^_, _<_, _≤_}
 use mathlib.Core.Path.{_≡_, refl}
 use mathlib.Core.List.{List, [], _∷_}
 use native.Mathlib.Nat.{pow-suc, pow-le-pow-right, mul-le-mul-right, mul-assoc, mul-comm}

@@ -1,14 +1,14 @@
 -- Laws of the numbers in digits that stand side by side: a turn of the loop over them, and the fields that they make up.
-use Prim.Native.Nat.{ℕ, suc, _+_, _*_, _-_, _<_, _≤_}
+use Prim.Native.Nat.{ℕ, suc, _+_, _*_, _<_, _≤_}
 use mathlib.Core.Path.{_≡_, refl, _∙_}
-use mathlib.Core.List.{List, [], _∷_}
+use mathlib.Core.List.{List, _∷_}
 use native.Mathlib.Decide.{decLt}
 use native.Mathlib.Numerals.{add-one}
 use native.Mathlib.Omega.{arith}
 use lib.ListN.{length, take, drop, getD, set}
 use lib.Seq.{drop-cons, getD-take, getD-drop, getD-set-same, getD-set-other}
 use Rattle.rules.specs.declared.Call.{Call}
-use Rattle.digits.specs.Digits.{digit, valueFrom, value, field}
+use Rattle.digits.specs.Digits.{digit, valueFrom, field}
 use Rattle.call_fields.specs.Calls.{callIn}
 use Rattle.frames.specs.Pairs.{pairAt, wordOf}
 

@@ -1,20 +1,19 @@
 -- A block of the right size whose unused bytes are 0, unpacked and packed again, is what it was.
-use Prim.Native.Nat.{ℕ, zero, suc, _+_, _*_, _<_, _≤_}
-use mathlib.Core.Path.{_≡_, refl, sym, ap, _∙_}
+use Prim.Native.Nat.{ℕ, suc, _+_, _*_, _<_, _≤_}
+use mathlib.Core.Path.{_≡_, _∙_}
 use mathlib.Core.Bool.{true}
-use mathlib.Core.List.{List, [], _∷_, append-assoc}
+use mathlib.Core.List.{List, [], _∷_}
 use native.Mathlib.Omega.{arith}
-use lib.Dec.{leb}
-use lib.ListN.{getD, length, take, drop, length-drop, take-append-drop}
-use lib.Seq.{getD-drop, take-all, drop-at, drop-drop, length-take-le}
-use borrow.Author.Tests.{eqb-true, lt-ltb, leb-true}
+use lib.ListN.{getD, length, take, drop, length-drop}
+use lib.Seq.{getD-drop, take-all}
+use borrow.Author.Tests.{eqb-true, lt-ltb}
 use Rattle.rules.specs.Numbers.{taskRoom, regionRoom, queueRoom, storeSize, timerRoom}
 use Rattle.rules.specs.Words.{every}
 use Rattle.rules.proofs.Lists.{every-drop, every-cons, every-nil}
 use Rattle.rules.proofs.Counts.{below-at}
-use Rattle.packing.specs.Bytes.{bytes, numbers, spread, over, put}
-use Rattle.packing.specs.Timers.{timerWidth, unusedPlace, timersIn}
-use Rattle.packing.proofs.RoundTrips.{isByte, numbers-length, spread-numbers, bytes-front, take-next, byte-at, timers-written}
+use Rattle.packing.specs.Bytes.{bytes, numbers, spread}
+use Rattle.packing.specs.Timers.{timerWidth, unusedPlace}
+use Rattle.packing.proofs.RoundTrips.{isByte, spread-numbers, bytes-front, take-next, byte-at, timers-written}
 use Rattle.layout.specs.Layout.{priorityPlace, statePlace, arrivedPlace, listPlace, operatorPlace, holderPlace, entriesPlace, boundPlace, lengthPlace, elementPlace, criterionPlace, ticksPlace, timersPlace, blockSize, part, unpacked, packed, unusedZero}
 
 -- a list of which every entry is a byte

@@ -8,7 +8,7 @@ use Rattle.rules.specs.declared.Table.{Table}
 use Rattle.rules.specs.Numbers.{taskRoom, regionRoom, queueRoom, storeSize, timerRoom}
 use Rattle.rules.specs.Words.{isZero, all, below}
 use Rattle.rules.specs.Validity.{valid}
-use Rattle.packing.specs.Bytes.{number, bytes, numbers, spread}
+use Rattle.packing.specs.Bytes.{bytes, numbers, spread}
 use Rattle.packing.specs.Timers.{timerWidth, unusedPlace, timersIn, timersBytes}
 
 -- ---- the places: each part begins where the one before it ends

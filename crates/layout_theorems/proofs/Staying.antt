@@ -19,7 +19,7 @@ use Rattle.layout.proofs.Back.{column}
 use Rattle.layout.proofs.Sizes.{Sized}
 use Rattle.front_writing.specs.Heads.{headPut}
 use Rattle.table_writing.specs.Wholes.{tailPut, wholePut, frontPacked}
-use Rattle.layout_theorems.proofs.Writing.{Written, written-length, headOf, head-next, whole-put}
+use Rattle.layout_theorems.proofs.Writing.{written-length, headOf, head-next, whole-put}
 
 module _ (old block : List ℕ) (small : every isByte old ≡ true) (size : length old ≡ blockSize) (long : length block ≡ blockSize) where
   put-own : (place width count : ℕ) → leb (place + width * count) blockSize ≡ true → drop place block ≡ drop place old

@@ -9,12 +9,12 @@ use native.Mathlib.Numerals.{add-one}
 use lib.ListN.{getD, set, length, take, drop, drop-of-length-le, length-append, length-drop, length-set, take-append-drop}
 use lib.Seq.{drop-cons, drop-drop, take-suc, take-all, take-at, drop-at, set-at, length-take-le}
 use borrow.Author.Tests.{leb-true, le-leb}
-use borrow.Rule.Slice.PartMut.{midOf, putMid}
+use borrow.Rule.Slice.PartMut.{putMid}
 use Rattle.rules.specs.declared.Timer.{Timer}
 use Rattle.rules.specs.Numbers.{timerRoom}
 use Rattle.packing.specs.Bytes.{number, bytes, numbers, spread, over, hasRoom, taken, put}
 use Rattle.packing.specs.Timers.{timerWidth, timerIn, timerBytes, timersIn, timersBytes, timersTaken, timersPut}
-use Rattle.packing.proofs.RoundTrips.{bytes-length, spread-length, numbers-length, timer-length, timers-length}
+use Rattle.packing.proofs.RoundTrips.{bytes-length, timer-length}
 use Rattle.packing.proofs.Single.{timer-own}
 
 -- the part of a block that a turn looks at

@@ -1,22 +1,22 @@
 -- The refusals as the code finds them: first those before a call's numbers are looked at, then the others, of a valid table.
 use Prim.Native.Nat.{ℕ, _<_}
 use mathlib.Core.Path.{_≡_, refl, sym, _∙_}
-use mathlib.Core.Bool.{Bool, true, false, cond, not, _&&_}
+use mathlib.Core.Bool.{Bool, true, false, cond, _&&_}
 use mathlib.Core.List.{List, [], _∷_}
 use native.Mathlib.Omega.{arith}
-use lib.Dec.{eqb, ltb, leb}
+use lib.Dec.{eqb, leb}
 use lib.ListN.{length}
 use borrow.Author.Tests.{eqb-true, ne-eqb, ltb-true, leb-true, lt-ltb, not-false}
 use Rattle.rules.specs.declared.Timer.{Timer}
 use Rattle.rules.specs.declared.Table.{Table}
 use Rattle.rules.specs.declared.Call.{Call}
-use Rattle.rules.specs.Numbers.{queueRoom, WAIT, ENTER, SEND, RETRIEVE, TICK}
+use Rattle.rules.specs.Numbers.{queueRoom, WAIT, ENTER, SEND, RETRIEVE}
 use Rattle.rules.specs.Words.{isZero, every, Reason, when, first}
 use Rattle.rules.specs.Regions.{occupied}
 use Rattle.rules.specs.Queues.{noneFits}
 use Rattle.rules.specs.Tables.{boundOf, lengthOf, queueOf}
 use Rattle.rules.specs.Validity.{valid, countsInRange}
-use Rattle.rules.specs.Refusals.{outsideBarred, notElected, tickByTask, missing, badOperator, wrongState, leaves, entriesFull, reasons, refusal}
+use Rattle.rules.specs.Refusals.{missing, badOperator, wrongState, leaves, entriesFull, reasons, refusal}
 use Rattle.rules.proofs.Bools.{given, or-left}
 use Rattle.rules.proofs.Queues.{queue-length}
 use Rattle.rules.proofs.Validity.{Parts, parts-of, sound}

@@ -19,7 +19,7 @@ use Rattle.rules.specs.Election.{smallest, lowest, isBest, bestReady, el
 use Rattle.rules.specs.Tables.{taskOf, withRegion, queueOf}
 use Rattle.rules.specs.Validity.{shaped, countsInRange, prioritiesInRange, boundsInRange, listsInRange, operatorsInRange, holdersInRange, criteriaInRange, zeroPast, zeroPastCounts, zeroPastLengths, restRight, statesRight, entriesRight, oneHolder, holderReady, holderElected, lengthsRight, electedRight, timerRight, timersRight, valid}
 use Rattle.rules.specs.Fresh.{configurationInRange, freshTable, fresh}
-use Rattle.rules.specs.Refusals.{missing, wrongState, leaves, reasons, refusal}
+use Rattle.rules.specs.Refusals.{missing, wrongState, leaves, reasons}
 use Rattle.rules.specs.Timers.{later, ahead}
 use Rattle.rules.specs.Effects.{ringing, ticked, effect}
 use Rattle.rules.specs.Step.{step}
@@ -125,7 +125,7 @@ P5 =
     ∷ run (says outside START 1 0 0 13 0 ∷ [])
     ∷ []
 
--- ---- "Order matters, own call first against outside SIGNAL of event 0 first."
+-- ---- "Order matters (O), own call first against outside SIGNAL of event 0 first."
 
 -- "PO1: START 1, signal to 1: signal's status 0 or 15."
 abbrev PO1 : List Run

@@ -17,6 +17,6 @@ met operator list arrived = cond (isZero operator) (eqb (bitAnd list arrived) li
 unfoldable pub arrive : ℕ → ℕ → ℕ
 arrive event arrived = bitOr arrived (2 ^ event)
 
--- "the listed events become not arrived"
+-- the "listed events become not arrived"
 unfoldable pub cleared : ℕ → ℕ → ℕ
 cleared list arrived = arrived - bitAnd arrived list

@@ -1,4 +1,4 @@
--- Timers: "each with its own armed flag, task, event and date", and the tick counter, which "starts again at 0".
+-- Timers: each has an armed flag of its own, a task, an event and a date; and the tick counter, which "starts again at 0".
 use Prim.Native.Nat.{ℕ, _+_, _-_, _%_}
 use mathlib.Core.Bool.{Bool, cond, not, _&&_}
 use lib.Dec.{eqb}

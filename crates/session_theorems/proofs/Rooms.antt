@@ -1,5 +1,5 @@
 -- Laws of room for an answer to every byte: it is room for all lines.
-use Prim.Native.Nat.{ℕ, suc, _+_, _*_, _-_, _/_, _≤_}
+use Prim.Native.Nat.{ℕ, suc, _+_, _*_, _/_, _≤_}
 use mathlib.Core.Path.{_≡_, refl, ap}
 use mathlib.Core.Bool.{Bool, true, false}
 use mathlib.Core.List.{List, [], _∷_}

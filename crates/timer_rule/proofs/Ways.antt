@@ -1,7 +1,7 @@
 -- One timer: each way out of the code is a rule that the timer breaks, and at the end the date decides.
 use Prim.Native.Nat.{ℕ, _<_, _≤_}
 use mathlib.Core.Path.{_≡_, refl}
-use mathlib.Core.Bool.{true, false, _&&_, and-true}
+use mathlib.Core.Bool.{false, _&&_, and-true}
 use lib.Dec.{ltb, leb}
 use borrow.Author.Tests.{lt-ltb, le-ltb, eq-eqb, ne-eqb}
 use Rattle.rules.specs.declared.Timer.{Timer}

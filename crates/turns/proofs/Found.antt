@@ -1,5 +1,5 @@
 -- Laws of the turn that the code makes, by the line that it found.
-use Prim.Native.Nat.{ℕ, _-_}
+use Prim.Native.Nat.{ℕ}
 use mathlib.Core.Path.{_≡_, sym, ap, _∙_}
 use mathlib.Core.List.{List}
 use Rattle.lines.specs.declared.ends.Line.{Line}

@@ -4,7 +4,6 @@ use native.Mathlib.Omega.{arith}
 use Prim.Native.Nat.{_-_, _≤_}
 use mathlib.Core.Path.{_≡_}
 use lib.ListN.{length}
-use Rattle.rules.proofs.Counts.{ends}
 use Rattle.frames.proofs.Pairs.{Paired, paired-none, paired-more}
 use Rattle.frames.proofs.pairs_of.Statement.{statement}
 use Rattle.frames.proofs.pairs_of.Tie as tie

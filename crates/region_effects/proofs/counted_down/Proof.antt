@@ -1,6 +1,5 @@
 -- The first entry frees; without one nothing is counted down.
 use borrow.Author.Needs.{needs}
-use native.Mathlib.Omega.{arith}
 use borrow.Author.Tests.{eq-eqb, ne-eqb}
 use Rattle.region_effects.proofs.counted_down.Statement.{statement}
 use Rattle.region_effects.proofs.counted_down.Tie as tie

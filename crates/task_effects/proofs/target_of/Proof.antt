@@ -1,6 +1,5 @@
 -- By the operation: the task that a or b names, or the caller.
 use borrow.Author.Needs.{needs}
-use native.Mathlib.Omega.{arith}
 use borrow.Author.Tests.{lt-ltb, le-ltb, eq-eqb, ne-eqb}
 use Rattle.task_effects.specs.Effects.{target}
 use Rattle.task_effects.proofs.target_of.Statement.{statement}
