@@ -1,5 +1,5 @@
 // Make fresh, on a block.
-use configure::fresh;
+use executive::fresh;
 use fronts::front_of;
 use layout::SIZE;
 use packing::NOT_A_TABLE;

@@ -56,30 +56,12 @@ pub fn out_of_range() -> Done
 pub fn fresh_table(tasks: u8, regions: u8, queues: u8, priority: [u8; 32], bound: [u8; 8]) -> Table
     ensures { λ r. ⌜ r ≡ freshBy tasks regions queues priority bound ⌝ }
 {
-    let mut state = [0u8; 32];
-    state[0] = 1;
-    Table {
-        tasks: tasks,
-        regions: regions,
-        queues: queues,
-        elected: 0,
-        priority: priority,
-        state: state,
-        arrived: [0; 32],
-        list: [0; 32],
-        operator: [0; 32],
-        holder: [0; 16],
-        entries: [0; 16],
-        bound: bound,
-        length: [0; 8],
-        element: [0; 512],
-        criterion: [0; 512],
-        ticks: 0,
-        timers: [Timer {
-            armed: 0,
-            owner: 0,
-            event: 0,
-            date: 0,
-        }; 16],
-    }
+    let mut t = zero_table();
+    t.tasks = tasks;
+    t.regions = regions;
+    t.queues = queues;
+    t.priority = priority;
+    t.state[0] = 1;
+    t.bound = bound;
+    t
 }

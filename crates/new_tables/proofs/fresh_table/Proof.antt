@@ -1,16 +1,20 @@
--- The arrays are the definition's, with task 0 ready.
+-- What a configuration does not set is as in the table of zeros, but for task 0, which is ready.
 use borrow.Author.Needs.{needs}
 use mathlib.Core.Path.{refl}
 use Rattle.rules.specs.Words.{padded}
+use Rattle.rules.specs.Fresh.{zeroTable}
 use Rattle.new_tables.proofs.fresh_table.Statement.{statement}
 use Rattle.new_tables.proofs.fresh_table.Tie as tie
 
-array-write-state : tie.Need-array-write-state
-array-write-state c = search needs
+zero-table-requires : tie.Need-zero-table-requires
+zero-table-requires c κs = search needs
+
+element-write-t : tie.Need-element-write-t
+element-write-t c = search needs
 
 returns : tie.Need-returns
-unfolding padded
-returns c = refl
+unfolding padded zeroTable
+returns c = rw (c .zero-table .ensures) refl
 
 pub fresh-table-spec : {M : Type 1} → statement M
-fresh-table-spec = tie.close (tie.spec array-write-state returns)
+fresh-table-spec = tie.close (tie.spec zero-table-requires element-write-t returns)
