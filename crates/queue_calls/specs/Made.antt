@@ -1,39 +1,15 @@
 -- What the code makes of a table for SEND and for RETRIEVE. Remainders change nothing of an accepted call's numbers.
 use Prim.Native.Nat.{ℕ, _+_, _%_}
-use mathlib.Core.List.{List}
 use lib.ListN.{getD, set}
 use Rattle.rules.specs.declared.Table.{Table}
 use Rattle.rules.specs.declared.Call.{Call}
 use Rattle.rules.specs.declared.Done.{Done}
 use Rattle.rules.specs.Numbers.{queueRoom, storeSize}
 use Rattle.rules.specs.Queues.{firstPlace}
-use Rattle.rules.specs.Tables.{lengthOf}
+use Rattle.rules.specs.Tables.{lengthOf, withStore}
 use Rattle.closing.specs.Gaps.{closedIn}
 use Rattle.retrieving.specs.Places.{placeIn}
 use Rattle.fronts.specs.Fronts.{told}
-
--- the table with these lengths and this store
-abbrev pub withStore : List ℕ → List ℕ → List ℕ → Table → Table
-withStore lengths element criterion t =
-    record {
-      tasks = t .tasks;
-      regions = t .regions;
-      queues = t .queues;
-      elected = t .elected;
-      priority = t .priority;
-      state = t .state;
-      arrived = t .arrived;
-      list = t .list;
-      operator = t .operator;
-      holder = t .holder;
-      entries = t .entries;
-      bound = t .bound;
-      length = lengths;
-      element = element;
-      criterion = criterion;
-      ticks = t .ticks;
-      timers = t .timers;
-    }
 
 -- the place behind the last element of queue q
 abbrev pub endOf : Table → ℕ → ℕ

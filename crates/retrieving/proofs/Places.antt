@@ -8,9 +8,9 @@ use borrow.Author.Tests.{le-leb, leb-true}
 use Rattle.rules.specs.declared.Table.{Table}
 use Rattle.rules.specs.Numbers.{queueRoom, storeSize}
 use Rattle.rules.specs.Queues.{pair, noPair, firstPlace, front, place, noneFits, without}
-use Rattle.rules.specs.Tables.{lengthOf, queueOf, withQueue}
+use Rattle.rules.specs.Tables.{lengthOf, queueOf, withQueue, withStore}
 use Rattle.rules.proofs.Bools.{same-test}
-use Rattle.rules.proofs.Queues.{Sound, withStores, queue-length, queue-criteria, element-at, criterion-at, taken-stored}
+use Rattle.rules.proofs.Queues.{Sound, queue-length, queue-criteria, element-at, criterion-at, taken-stored}
 use Rattle.closing.specs.Gaps.{closedIn}
 use Rattle.closing.proofs.Gaps.{closed-is}
 use Rattle.retrieving.specs.Places.{placeIn}
@@ -55,7 +55,7 @@ module _ (t : Table) (q : ℕ) (s : Sound t q) (there : q < queueRoom) (k : ℕ)
 
     -- the queue without it
     pub taken-is : withQueue q (without (place k (queueOf t q)) (queueOf t q)) t
-        ≡ withStores (set (t .length) q (lengthOf t q - 1))
+        ≡ withStore (set (t .length) q (lengthOf t q - 1))
         (closedIn at (firstPlace q + lengthOf t q) (t .element))
         (closedIn at (firstPlace q + lengthOf t q) (t .criterion))
         t

@@ -10,6 +10,7 @@ use Rattle.rules.specs.declared.Timer.{Timer}
 use Rattle.rules.specs.declared.Table.{Table}
 use Rattle.rules.specs.Numbers.{taskRoom, eventEnd}
 use Rattle.rules.specs.Tasks.{signalled}
+use Rattle.rules.specs.Tables.{withColumns}
 use Rattle.rules.specs.Timers.{isDue}
 use Rattle.ringing.specs.declared.Rows.{Rows}
 
@@ -48,23 +49,4 @@ abbrev pub rowsOf : Table → Rows
 rowsOf t = record { state = t .state; arrived = t .arrived; list = t .list; operator = t .operator }
 
 abbrev pub withRows : Rows → Table → Table
-withRows rows t =
-    record {
-      tasks = t .tasks;
-      regions = t .regions;
-      queues = t .queues;
-      elected = t .elected;
-      priority = t .priority;
-      state = rows .state;
-      arrived = rows .arrived;
-      list = rows .list;
-      operator = rows .operator;
-      holder = t .holder;
-      entries = t .entries;
-      bound = t .bound;
-      length = t .length;
-      element = t .element;
-      criterion = t .criterion;
-      ticks = t .ticks;
-      timers = t .timers;
-    }
+withRows rows t = withColumns (rows .state) (rows .arrived) (rows .list) (rows .operator) t

@@ -11,7 +11,7 @@ use Rattle.rules.specs.declared.Table.{Table}
 use Rattle.rules.specs.Numbers.{places}
 use Rattle.rules.specs.Words.{isZero, every}
 use Rattle.rules.specs.Queues.{Pair, pair, noPair, pairs, elements, criteria, firstPlace, front, behind, laid, without}
-use Rattle.rules.specs.Tables.{lengthOf, queueOf, withQueue}
+use Rattle.rules.specs.Tables.{lengthOf, queueOf, withStore, withQueue}
 use Rattle.rules.proofs.Lists.{length-without, map-append, map-without}
 use Rattle.rules.proofs.Store.{front-at, front-length, front-laid-same, front-laid-other, closed, store-send, store-take}
 
@@ -56,29 +56,6 @@ pub record Sound (t : Table) (q : ℕ) : Type 0 where
   -- "Everything past .. a queue's length is 0."
   pub ez : every isZero (behind q (lengthOf t q) (t .element)) ≡ true
   pub cz : every isZero (behind q (lengthOf t q) (t .criterion)) ≡ true
-
--- the table with these arrays for its queues, as the code writes them
-abbrev pub withStores : List ℕ → List ℕ → List ℕ → Table → Table
-withStores lengths es cs t =
-    record {
-      tasks = t .tasks;
-      regions = t .regions;
-      queues = t .queues;
-      elected = t .elected;
-      priority = t .priority;
-      state = t .state;
-      arrived = t .arrived;
-      list = t .list;
-      operator = t .operator;
-      holder = t .holder;
-      entries = t .entries;
-      bound = t .bound;
-      length = lengths;
-      element = es;
-      criterion = cs;
-      ticks = t .ticks;
-      timers = t .timers;
-    }
 
 -- one side of a list laid down
 module _ (f : Pair → ℕ) (q : ℕ) (queue : List Pair) (l : List ℕ) (short : length queue ≤ places) (room : firstPlace q + places ≤ length l) where
@@ -141,7 +118,7 @@ module _ (t : Table) (q : ℕ) (s : Sound t q) where
     sent = queue-same t q (s .room) (queueOf t q ++ (pair e c ∷ [])) (rw (length-append, queue-length) (omega arith))
 
     pub sent-stored : withQueue q (queueOf t q ++ (pair e c ∷ [])) t
-        ≡ withStores (set (t .length) q (lengthOf t q + 1))
+        ≡ withStore (set (t .length) q (lengthOf t q + 1))
         (set (t .element) (firstPlace q + lengthOf t q) e)
         (set (t .criterion) (firstPlace q + lengthOf t q) c)
         t
@@ -166,7 +143,7 @@ module _ (t : Table) (q : ℕ) (s : Sound t q) where
     taken = queue-same t q (s .room) (without i (queueOf t q)) (rw left (omega arith))
 
     pub taken-stored : withQueue q (without i (queueOf t q)) t
-        ≡ withStores (set (t .length) q (lengthOf t q - 1))
+        ≡ withStore (set (t .length) q (lengthOf t q - 1))
         (closed (firstPlace q + i) (firstPlace q + lengthOf t q) (t .element))
         (closed (firstPlace q + i) (firstPlace q + lengthOf t q) (t .criterion))
         t

@@ -37,19 +37,19 @@ boundOf t q = getD (t .bound) q 0
 unfoldable pub queueOf : Table → ℕ → List Pair
 queueOf t q = pairs (front q (lengthOf t q) (t .element)) (front q (lengthOf t q) (t .criterion))
 
--- the table where the columns say this of task i
-abbrev pub withTask : ℕ → Task → Table → Table
-withTask i r t =
+-- the table with these columns for its tasks
+abbrev pub withColumns : List ℕ → List ℕ → List ℕ → List ℕ → Table → Table
+withColumns state arrived list operator t =
     record {
       tasks = t .tasks;
       regions = t .regions;
       queues = t .queues;
       elected = t .elected;
       priority = t .priority;
-      state = set (t .state) i (r .state);
-      arrived = set (t .arrived) i (r .arrived);
-      list = set (t .list) i (r .list);
-      operator = set (t .operator) i (r .operator);
+      state = state;
+      arrived = arrived;
+      list = list;
+      operator = operator;
       holder = t .holder;
       entries = t .entries;
       bound = t .bound;
@@ -59,6 +59,11 @@ withTask i r t =
       ticks = t .ticks;
       timers = t .timers;
     }
+
+-- the table where the columns say this of task i
+abbrev pub withTask : ℕ → Task → Table → Table
+withTask i r t =
+    withColumns (set (t .state) i (r .state)) (set (t .arrived) i (r .arrived)) (set (t .list) i (r .list)) (set (t .operator) i (r .operator)) t
 
 -- the table where the columns say this of region i
 abbrev pub withRegion : ℕ → Region → Table → Table
@@ -105,9 +110,9 @@ withElected who t =
       timers = t .timers;
     }
 
--- the table where queue q means this list
-abbrev pub withQueue : ℕ → List Pair → Table → Table
-withQueue q queue t =
+-- the table with these lengths and this store for its queues
+abbrev pub withStore : List ℕ → List ℕ → List ℕ → Table → Table
+withStore lengths element criterion t =
     record {
       tasks = t .tasks;
       regions = t .regions;
@@ -121,12 +126,17 @@ withQueue q queue t =
       holder = t .holder;
       entries = t .entries;
       bound = t .bound;
-      length = set (t .length) q (length queue);
-      element = laid q (elements queue) (t .element);
-      criterion = laid q (criteria queue) (t .criterion);
+      length = lengths;
+      element = element;
+      criterion = criterion;
       ticks = t .ticks;
       timers = t .timers;
     }
+
+-- the table where queue q means this list
+abbrev pub withQueue : ℕ → List Pair → Table → Table
+withQueue q queue t =
+    withStore (set (t .length) q (length queue)) (laid q (elements queue) (t .element)) (laid q (criteria queue) (t .criterion)) t
 
 -- the table with this counter and these timers
 abbrev pub withTimers : ℕ → List Timer → Table → Table

@@ -14,13 +14,13 @@ use Rattle.rules.specs.declared.Call.{Call}
 use Rattle.rules.specs.declared.Done.{Done}
 use Rattle.rules.specs.Numbers.{queueRoom, places, SEND, RETRIEVE, TICK}
 use Rattle.rules.specs.Queues.{Pair, pair, firstPlace}
-use Rattle.rules.specs.Tables.{taskOf, lengthOf, boundOf, queueOf, withTask, withElected, electionOf}
+use Rattle.rules.specs.Tables.{taskOf, lengthOf, boundOf, queueOf, withTask, withElected, electionOf, withStore}
 use Rattle.rules.specs.Answers.{done}
 use Rattle.rules.specs.Refusals.{missing, refusal}
 use Rattle.rules.specs.Effects.{Effect, plain, ticked, effect}
 use Rattle.rules.specs.Step.{accepted, step}
 use Rattle.rules.proofs.Bools.{or-right}
-use Rattle.rules.proofs.Queues.{Sound, withStores, queue-length, sent-stored}
+use Rattle.rules.proofs.Queues.{Sound, queue-length, sent-stored}
 use Rattle.rules.proofs.Validity.{Parts, parts-of, sound, bound-below}
 use Rattle.rules.proofs.Refusals.{Accepted, accepted-facts}
 use Rattle.closing.specs.Gaps.{closedIn}
@@ -47,7 +47,7 @@ as-told u false = refl
 
 -- what the code answers where only the queues' arrays change
 abbrev stored : Table → List ℕ → List ℕ → List ℕ → ℕ → ℕ → ℕ → Done
-stored t lengths es cs value key who = told (withElected who (withStores lengths es cs t)) 0 value key
+stored t lengths es cs value key who = told (withElected who (withStore lengths es cs t)) 0 value key
 
 -- an entry stored again where it stands
 set-own : (xs : List ℕ) (i : ℕ) → set xs i (getD xs i 0) ≡ xs
@@ -142,7 +142,7 @@ module _ (t : Table) (c : Call) (z : refusal t c ≡ 0) where
 
     sent : effect t c
         ≡ plain
-        (withStores (set (t .length) (c .a) (lengthOf t (c .a) + 1)) (set (t .element) (firstPlace (c .a) + lengthOf t (c .a)) (c .b))
+        (withStore (set (t .length) (c .a) (lengthOf t (c .a) + 1)) (set (t .element) (firstPlace (c .a) + lengthOf t (c .a)) (c .b))
         (set (t .criterion) (firstPlace (c .a) + lengthOf t (c .a)) (c .c)) t)
     unfolding effect
     sent = rw e (ap plain (sent-stored t (c .a) queue (c .b) (c .c) free))
@@ -182,7 +182,7 @@ module _ (t : Table) (c : Call) (z : refusal t c ≡ 0) where
 
     taken : effect t c
         ≡ effect-of
-        (withStores (set (t .length) (c .a) (lengthOf t (c .a) - 1)) (closedIn placeFound (endOf t (c .a)) (t .element))
+        (withStore (set (t .length) (c .a) (lengthOf t (c .a) - 1)) (closedIn placeFound (endOf t (c .a)) (t .element))
         (closedIn placeFound (endOf t (c .a)) (t .criterion)) t)
         (pair (getD (t .element) placeFound 0) (getD (t .criterion) placeFound 0))
     unfolding effect effect-of
