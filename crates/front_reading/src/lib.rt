@@ -11,7 +11,7 @@ use layout::PRIORITY;
 use layout::STATE;
 use layout::TICKS;
 use layout::TIMER;
-use layout::byte_at;
+use lookups::byte_at;
 use reading::take_bytes;
 use reading::take_halves;
 use rules::QUEUES;

@@ -16,5 +16,4 @@ pub use place::SIZE;
 pub use place::STATE;
 pub use place::TICKS;
 pub use place::TIMER;
-pub use read::byte_at;
 pub use read::unused_zero;

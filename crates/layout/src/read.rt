@@ -1,16 +1,9 @@
-// Single bytes of a block, and those that are not used.
+// The bytes of a block that are not used.
 use crate::place::TIMER;
+use lookups::byte_at;
 use rules::TIMERS;
 ghost use mathlib.Core.Path.{_≡_};
-ghost use lib.ListN.{getD};
 ghost use Rattle.layout.specs.Layout.{unusedZero};
-
-// The byte at a place, 0 past the end.
-pub fn byte_at(block: &[u8], at: usize) -> u8
-    ensures { λ r. ⌜ r ≡ getD (now (block .entry)) at 0 ⌝ }
-{
-    if at < block.len() { block[at] } else { 0 }
-}
 
 // Each timer has a byte that is not used, the fourth.
 pub fn unused_zero(block: &[u8]) -> bool

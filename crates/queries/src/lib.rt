@@ -1,7 +1,6 @@
 // The three queries about tasks, beside those about queues: each answers and changes nothing.
 use conditions::met_by;
-use lookups::events_at;
-use lookups::state_at;
+use lookups::byte_at;
 pub use queue_queries::empty;
 pub use queue_queries::full;
 use replies::arrived_status;
@@ -12,7 +11,17 @@ use rules::Answer;
 use rules::Table;
 use whole_table::is_valid;
 ghost use mathlib.Core.Path.{_≡_};
+ghost use lib.ListN.{length, getD};
 ghost use Rattle.rules.specs.Queries.{arrivedQuery, priorityQuery, stateQuery};
+
+// The events of a task, none for one that does not exist.
+fn events_at(arrived: &[u16; 32], i: u8) -> u16
+    requires { ⌜ length (now arrived) ≡ 32 ⌝ }
+    ensures { λ r. ⌜ r ≡ getD (now (arrived .entry)) i 0 ⌝ }
+{
+    let at = i as usize;
+    if at < 32 { arrived[at] } else { 0 }
+}
 
 // ARRIVED: 1 if the condition on the caller's events is met.
 pub fn arrived(t: Table, caller: u8, list: u32, operator: u32) -> Answer
@@ -31,7 +40,7 @@ pub fn priority(t: Table, task: u32) -> Answer
 {
     let ok = is_valid(t);
     let status = object_status(ok, t.tasks, task);
-    let p = state_at(&t.priority, task);
+    let p = byte_at(&t.priority, task as usize);
     reply_of(status, p as u32, t.elected)
 }
 
@@ -41,6 +50,6 @@ pub fn state(t: Table, task: u32) -> Answer
 {
     let ok = is_valid(t);
     let status = object_status(ok, t.tasks, task);
-    let s = state_at(&t.state, task);
+    let s = byte_at(&t.state, task as usize);
     reply_of(status, s as u32, t.elected)
 }

@@ -1,5 +1,5 @@
 // The two queries about a queue: each answers and changes nothing.
-use lookups::entry_at;
+use lookups::byte_at;
 use replies::object_status;
 use replies::one_if;
 use replies::reply_of;
@@ -15,7 +15,7 @@ pub fn empty(t: Table, queue: u32) -> Answer
 {
     let ok = is_valid(t);
     let status = object_status(ok, t.queues, queue);
-    let held = entry_at(&t.length, queue);
+    let held = byte_at(&t.length, queue as usize);
     reply_of(status, one_if(held == 0), t.elected)
 }
 
@@ -25,7 +25,7 @@ pub fn full(t: Table, queue: u32) -> Answer
 {
     let ok = is_valid(t);
     let status = object_status(ok, t.queues, queue);
-    let most = entry_at(&t.bound, queue);
-    let n = entry_at(&t.length, queue);
+    let most = byte_at(&t.bound, queue as usize);
+    let n = byte_at(&t.length, queue as usize);
     reply_of(status, one_if(most <= n), t.elected)
 }

@@ -1,5 +1,5 @@
 // Why SEND and RETRIEVE are refused, once their numbers stand for something: the first reason that applies.
-use lookups::entry_at;
+use lookups::byte_at;
 use reasons::pick;
 use retrieving::place_of;
 use rules::Call;
@@ -16,8 +16,8 @@ fn full_of<'a>(bound: &'a [u8; 8], lengths: &'a [u8; 8], k: Call) -> bool
     requires { ⌜ length (now lengths) ≡ 8 ⌝ }
     ensures { λ r. ⌜ r ≡ (eqb (k .operation) 8 && leb (getD (now (bound .entry)) (k .a) 0) (getD (now (lengths .entry)) (k .a) 0)) ⌝ }
 {
-    let most = entry_at(bound, k.a);
-    let n = entry_at(lengths, k.a);
+    let most = byte_at(bound, k.a as usize);
+    let n = byte_at(lengths, k.a as usize);
     (k.operation == 8) & (most <= n)
 }
 
@@ -29,7 +29,7 @@ fn lacking_of<'a>(lengths: &'a [u8; 8], criterion: &'a [u8; 512], k: Call) -> bo
 {
     if (k.operation == 9) & (k.a < 8) {
         let from = (k.a as usize) * 64;
-        let to = from + (entry_at(lengths, k.a) as usize);
+        let to = from + (byte_at(lengths, k.a as usize) as usize);
         let at = place_of(criterion, from, to, k.c);
         return to <= at;
     }

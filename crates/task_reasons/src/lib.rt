@@ -1,7 +1,6 @@
 // Why a call about tasks or regions is refused, once its numbers stand for something: the first reason that applies.
 use call_numbers::leaves_of;
-use lookups::count_at;
-use lookups::state_at;
+use lookups::byte_at;
 use reasons::pick;
 use regions::held_by;
 use rules::Call;
@@ -20,8 +19,8 @@ fn wrong_task_of(state: &[u8; 32], k: Call) -> bool
     ensures { λ r. ⌜ r ≡ wrongTask (now (state .entry)) k ⌝ }
 {
     let operation = k.operation;
-    let a = state_at(state, k.a) == 0;
-    let b = state_at(state, k.b) == 0;
+    let a = byte_at(state, k.a as usize) == 0;
+    let b = byte_at(state, k.b as usize) == 0;
     ((operation == 0) & !a) | (((operation == 1) & a) | ((operation == 3) & b))
 }
 
@@ -41,7 +40,7 @@ fn deepest_of(entries: &[u8; 16], k: Call) -> bool
     requires { ⌜ length (now entries) ≡ 16 ⌝ }
     ensures { λ r. ⌜ r ≡ (eqb (k .operation) 6 && entriesFull (now (entries .entry)) (k .a)) ⌝ }
 {
-    let n = count_at(entries, k.a);
+    let n = byte_at(entries, k.a as usize);
     (k.operation == 6) & (n == 255)
 }
 

@@ -2,7 +2,7 @@
 use super::say;
 use bytes::scan::find;
 use check::same;
-use layout::byte_at;
+use lookups::byte_at;
 use std::num::wrapping_add_u32;
 
 // What no name stands for.

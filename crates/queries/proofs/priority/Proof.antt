@@ -11,8 +11,8 @@ is-valid-requires c κs = search needs
 object-status-requires : tie.Need-object-status-requires
 object-status-requires c κs = search needs
 
-state-at-requires : tie.Need-state-at-requires
-state-at-requires c κs = search needs
+byte-at-requires : tie.Need-byte-at-requires
+byte-at-requires c κs = search needs
 
 cast-reply-of : tie.Need-cast-reply-of
 cast-reply-of c = search needs
@@ -21,7 +21,7 @@ reply-of-requires : tie.Need-reply-of-requires
 reply-of-requires c κs = search needs
 
 returns : tie.Need-returns
-returns c = c .reply-of .ensures ∙ priority-is _ _ _ (c .before .before .before .before .before .is-valid .ensures) _ _ (c .before .before .before .before .object-status .ensures) (c .before .state-at .ensures)
+returns c = c .reply-of .ensures ∙ priority-is _ _ _ (c .before .before .before .before .before .before .is-valid .ensures) _ _ (c .before .before .before .before .before .object-status .ensures) (c .before .byte-at .ensures)
 
 pub priority-spec : {M : Type 1} → statement M
 priority-spec =
@@ -29,7 +29,7 @@ priority-spec =
     (tie.spec
     is-valid-requires
     object-status-requires
-    state-at-requires
+    byte-at-requires
     cast-reply-of
     reply-of-requires
     returns)

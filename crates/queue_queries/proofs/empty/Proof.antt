@@ -1,13 +1,9 @@
 -- Where nothing is refused, the queue's list has the length that is stored.
 use borrow.Author.Needs.{needs}
-use mathlib.Core.Path.{_≡_, _∙_}
-use lib.ListN.{length}
+use mathlib.Core.Path.{_∙_}
 use Rattle.queue_queries.proofs.Stored.{empty-is}
 use Rattle.queue_queries.proofs.empty.Statement.{statement}
 use Rattle.queue_queries.proofs.empty.Tie as tie
-
-long : (c : tie.Start) → length (c .args .t1 .length) ≡ 8
-long c = search needs
 
 is-valid-requires : tie.Need-is-valid-requires
 is-valid-requires c κs = search needs
@@ -15,8 +11,8 @@ is-valid-requires c κs = search needs
 object-status-requires : tie.Need-object-status-requires
 object-status-requires c κs = search needs
 
-entry-at-requires : tie.Need-entry-at-requires
-entry-at-requires c κs = long (c .before .before .before .before)
+byte-at-requires : tie.Need-byte-at-requires
+byte-at-requires c κs = search needs
 
 one-if-requires : tie.Need-one-if-requires
 one-if-requires c κs = search needs
@@ -25,7 +21,7 @@ reply-of-requires : tie.Need-reply-of-requires
 reply-of-requires c κs = search needs
 
 returns : tie.Need-returns
-returns c = c .reply-of .ensures ∙ empty-is _ _ _ (c .before .before .before .before .before .before .is-valid .ensures) _ _ _ (c .before .before .before .before .before .object-status .ensures) (c .before .before .entry-at .ensures) (c .before .one-if .ensures)
+returns c = c .reply-of .ensures ∙ empty-is _ _ _ (c .before .before .before .before .before .before .before .is-valid .ensures) _ _ _ (c .before .before .before .before .before .before .object-status .ensures) (c .before .before .byte-at .ensures) (c .before .one-if .ensures)
 
 pub empty-spec : {M : Type 1} → statement M
 empty-spec =
@@ -33,7 +29,7 @@ empty-spec =
     (tie.spec
     is-valid-requires
     object-status-requires
-    entry-at-requires
+    byte-at-requires
     one-if-requires
     reply-of-requires
     returns)

@@ -10,8 +10,11 @@ cast-from c = search needs
 mul-from : tie.Need-mul-from
 mul-from c = search needs
 
-entry-at-requires : tie.Need-entry-at-requires
-entry-at-requires c κs = search needs
+cast-byte-at : tie.Need-cast-byte-at
+cast-byte-at c = search needs
+
+byte-at-requires : tie.Need-byte-at-requires
+byte-at-requires c κs = search needs
 
 cast-to : tie.Need-cast-to
 cast-to c = search needs
@@ -24,7 +27,7 @@ place-of-requires c κs = search needs
 
 returns : tie.Need-returns
 unfolding lacking
-returns c = rw (c .before .before .before .if1 .taken, c .place-of .ensures, c .before .entry-at .ensures)
+returns c = rw (c .before .before .before .before .before .if1 .taken, c .place-of .ensures, c .before .byte-at .ensures)
 
 returns-2 : tie.Need-returns-2
 unfolding lacking
@@ -36,7 +39,8 @@ lacking-of-spec =
     (tie.spec
     cast-from
     mul-from
-    entry-at-requires
+    cast-byte-at
+    byte-at-requires
     cast-to
     add-to
     place-of-requires

@@ -4,14 +4,21 @@ use Rattle.task_reasons.proofs.Wrong.{wrong-is}
 use Rattle.task_reasons.proofs.wrong_task_of.Statement.{statement}
 use Rattle.task_reasons.proofs.wrong_task_of.Tie as tie
 
-state-at-requires : tie.Need-state-at-requires
-state-at-requires c κs = search needs
+cast-byte-at : tie.Need-cast-byte-at
+cast-byte-at c = search needs
 
-state-at-requires-2 : tie.Need-state-at-requires-2
-state-at-requires-2 c κs = search needs
+byte-at-requires : tie.Need-byte-at-requires
+byte-at-requires c κs = search needs
+
+cast-byte-at-2 : tie.Need-cast-byte-at-2
+cast-byte-at-2 c = search needs
+
+byte-at-requires-2 : tie.Need-byte-at-requires-2
+byte-at-requires-2 c κs = search needs
 
 returns : tie.Need-returns
-returns c = wrong-is _ _ _ _ (c .before .state-at .ensures) (c .state-at2 .ensures)
+returns c = wrong-is _ _ _ _ (c .before .before .before .byte-at .ensures) (c .byte-at2 .ensures)
 
 pub wrong-task-of-spec : {M : Type 1} → statement M
-wrong-task-of-spec = tie.close (tie.spec state-at-requires state-at-requires-2 returns)
+wrong-task-of-spec =
+    tie.close (tie.spec cast-byte-at byte-at-requires cast-byte-at-2 byte-at-requires-2 returns)

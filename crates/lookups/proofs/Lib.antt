@@ -1,2 +1,0 @@
--- A law that the proofs of this crate's functions cite.
-mod Past
