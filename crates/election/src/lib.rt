@@ -97,7 +97,7 @@ fn lowest_of<'a>(state: &'a [u8; 32], priority: &'a [u8; 32], p: u16) -> u8
     lowest_bit(w) as u8
 }
 
-pub fn best_ready<'a>(state: &'a [u8; 32], priority: &'a [u8; 32]) -> u8
+fn best_ready<'a>(state: &'a [u8; 32], priority: &'a [u8; 32]) -> u8
     requires { ⌜ length (now state) ≡ 32 ⌝ }
     requires { ⌜ length (now priority) ≡ 32 ⌝ }
     ensures { λ r. ⌜ r ≡ bestReady (now (state .entry)) (now (priority .entry)) ⌝ }
