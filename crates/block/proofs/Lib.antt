@@ -1,4 +1,0 @@
--- Laws that the proofs of this crate's functions cite.
-mod Made
-mod Called
-mod Asked

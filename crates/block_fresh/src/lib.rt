@@ -1,0 +1,42 @@
+// Make fresh, on a block.
+use configure::fresh;
+use fronts::front_of;
+use layout::SIZE;
+use packing::NOT_A_TABLE;
+use packing::answer_number;
+use rules::Table;
+use table_writing::pack_whole;
+ghost use mathlib.Core.Path.{_≡_};
+ghost use lib.ListN.{length};
+ghost use Rattle.layout.specs.Layout.{blockSize, packed};
+ghost use Rattle.layout.specs.Calls.{freshBlock};
+
+fn pack(t: Table, block: &mut [u8])
+    requires { ⌜ length (now block) ≡ blockSize ⌝ }
+    ensures { λ _. ⌜ now (block .exit) ≡ packed t ⌝ }
+{
+    let element = t.element;
+    let criterion = t.criterion;
+    pack_whole(front_of(t), &element, &criterion, block);
+}
+
+// A block of another size is not touched; any other holds the fresh table, or zeros after 20.
+#[no_mangle]
+pub extern "C" fn tankwesho_fresh<'a>(
+    block: &mut [u8],
+    tasks: u8,
+    regions: u8,
+    queues: u8,
+    priorities: &'a [u8],
+    bounds: &'a [u8],
+) -> u64
+    ensures answer { λ r. ⌜ r ≡ freshBlock (now (block .entry)) tasks regions queues (now (priorities .entry)) (now (bounds .entry)) .answer ⌝ }
+    ensures stored { λ _. ⌜ now (block .exit) ≡ freshBlock (now (block .entry)) tasks regions queues (now (priorities .entry)) (now (bounds .entry)) .block ⌝ }
+{
+    if block.len() != SIZE {
+        return NOT_A_TABLE;
+    }
+    let d = fresh(tasks, regions, queues, priorities, bounds);
+    pack(d.table, block);
+    answer_number(d.answer)
+}

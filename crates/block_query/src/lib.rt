@@ -1,0 +1,83 @@
+// One query, on a block: the queries by number, on the table that the block holds.
+use front_reading::front_in;
+use fronts::table_of;
+use layout::SIZE;
+use layout::unused_zero;
+use packing::NOT_A_TABLE;
+use packing::answer_number;
+use queries::arrived;
+use queries::empty;
+use queries::full;
+use queries::priority;
+use queries::state;
+use rules::Answer;
+use rules::STORE;
+use rules::Table;
+use store_reading::store_in;
+use whole_table::is_valid;
+ghost use mathlib.Core.Path.{_≡_};
+ghost use mathlib.Core.Bool.{cond};
+ghost use lib.ListN.{length};
+ghost use Rattle.rules.specs.Validity.{valid};
+ghost use Rattle.rules.specs.Answers.{replied};
+ghost use Rattle.layout.specs.Layout.{blockSize, unpacked};
+ghost use Rattle.layout.specs.Calls.{queryOrTen, queryBlock, notATable};
+
+// The whole table.
+fn unpack(block: &[u8]) -> Table
+    requires { ⌜ length (now block) ≡ blockSize ⌝ }
+    ensures { λ r. ⌜ r ≡ unpacked (now (block .entry)) ⌝ }
+{
+    let mut element = [0u32; STORE];
+    let mut criterion = [0u8; STORE];
+    store_in(block, &mut element, &mut criterion);
+    table_of(front_in(block), element, criterion)
+}
+
+// What a number above 4 gets: 10 comes before 11.
+fn unknown_query(t: Table) -> Answer
+    ensures { λ r. ⌜ r ≡ cond (valid t) (replied t 11 0) notATable ⌝ }
+{
+    if is_valid(t) {
+        return Answer {
+            status: 11,
+            value: 0,
+            key: 0,
+            elected: t.elected,
+        };
+    }
+    Answer {
+        status: 10,
+        value: 0,
+        key: 0,
+        elected: 255,
+    }
+}
+
+// 0 ARRIVED, 1 EMPTY, 2 FULL, 3 PRIORITY, 4 STATE.
+fn query_of(t: Table, query: u8, caller: u8, a: u32, b: u32) -> Answer
+    ensures { λ r. ⌜ r ≡ queryOrTen t query caller a b ⌝ }
+{
+    match query {
+        0 => arrived(t, caller, a, b),
+        1 => empty(t, a),
+        2 => full(t, a),
+        3 => priority(t, a),
+        4 => state(t, a),
+        _ => unknown_query(t),
+    }
+}
+
+// A block that is no table gets 10.
+#[no_mangle]
+pub extern "C" fn tankwesho_query(block: &[u8], query: u8, caller: u8, a: u32, b: u32) -> u64
+    ensures { λ r. ⌜ r ≡ queryBlock (now (block .entry)) query caller a b ⌝ }
+{
+    if block.len() != SIZE {
+        return NOT_A_TABLE;
+    }
+    if !unused_zero(block) {
+        return NOT_A_TABLE;
+    }
+    answer_number(query_of(unpack(block), query, caller, a, b))
+}
