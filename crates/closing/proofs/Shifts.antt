@@ -1,15 +1,16 @@
 -- A part moved one down, place by place: a turn and the end of the loop, over the list of entries whatever their width.
 use Prim.Native.Nat.{ℕ, suc, _+_, _-_, _<_, _≤_}
 use mathlib.Core.Path.{_≡_, sym, ap, _∙_}
-use mathlib.Core.Bool.{true}
+use mathlib.Core.Bool.{true, _&&_}
 use mathlib.Core.List.{List, [], _∷_, _++_, append-assoc, append-nil}
 use native.Mathlib.Numerals.{add-one}
 use native.Mathlib.Omega.{arith}
-use lib.Dec.{leb}
+use lib.Dec.{ltb, leb}
 use lib.ListN.{length, take, drop, getD, set, length-append, take-append-drop}
 use lib.Seq.{slice, slice-empty, length-slice, length-take-le, take-suc, drop-cons, drop-append-le, set-at, getD-append-add, getD-drop}
-use borrow.Author.Tests.{leb-true, lt-ltb}
+use borrow.Author.Tests.{ltb-true, leb-true}
 use Rattle.rules.specs.Numbers.{storeSize}
+use Rattle.rules.proofs.Bools.{and-left, and-right}
 use Rattle.closing.specs.Gaps.{closedIn}
 
 abbrev moved : ℕ → ℕ → List ℕ → List ℕ
@@ -43,20 +44,24 @@ pub shift-start : (at : ℕ) (l : List ℕ) → l ≡ shifted at at l
 unfolding shifted
 shift-start at l = simp (slice-empty, append-nil) (sym (take-append-drop at l))
 
-pub shift-again : (at i last : ℕ) (l s : List ℕ) → s ≡ shifted at i l → at ≤ i → i < last → last < length l
+pub shift-again : (at i : ℕ) (l s : List ℕ) → s ≡ shifted at i l → at ≤ i → i + 1 < length l
     → set s i (getD s (i + 1) 0) ≡ shifted at (i + 1) l
 unfolding shifted
-shift-again at i last l s e h k g =
+shift-again at i l s e h g =
     let below-end : i < length l = omega arith in
     rw (e, shift-get at i l h below-end, shift-set at i l h below-end, add-one, slice-snoc (suc at) (suc i) l 0 (omega arith) (omega arith))
     (simp append-assoc)
 
-pub shift-end : (at i end : ℕ) (l s : List ℕ) → s ≡ shifted at i l → at ≤ i → i ≤ end - 1 → end - 1 ≤ i → at < end
-    → leb end storeSize ≡ true → length l ≡ storeSize → set s (end - 1) 0 ≡ closedIn at end l
+-- a part that is there
+pub there : (at end : ℕ) → (ltb at end && leb end storeSize) ≡ true → (at < end) × (end ≤ storeSize)
+there at end t = (ltb-true at end (and-left (ltb at end) (leb end storeSize) t), leb-true end storeSize (and-right (ltb at end) (leb end storeSize) t))
+
+pub shift-end : (at i end : ℕ) (l s : List ℕ) → s ≡ shifted at i l → at ≤ i → i ≤ end - 1 → end - 1 ≤ i
+    → (ltb at end && leb end storeSize) ≡ true → length l ≡ storeSize → set s (end - 1) 0 ≡ closedIn at end l
 unfolding closedIn
-shift-end at i end l s e h p q k t g =
+shift-end at i end l s e h p q t g =
+    let fits = there at end t in
     let here : i ≡ end - 1 = omega arith in
     let next : suc (end - 1) ≡ end = omega arith in
-    let fits = leb-true end storeSize t in
-    rw (lt-ltb at end k, t, e, ← here, shift-set at i l h (omega arith))
+    rw (t, e, ← here, shift-set at i l h (omega arith))
     (rw (here, next) (append-assoc (take at l) (slice (suc at) end l) (0 ∷ drop end l)))

@@ -9,7 +9,7 @@ pub fn close_elements(element: &mut [u32; STORE], at: usize, end: usize)
     requires { ⌜ length (now element) ≡ 512 ⌝ }
     ensures { λ r. ⌜ now (element .exit) ≡ closedIn at end (now (element .entry)) ⌝ }
 {
-    if at < end && end <= STORE {
+    if (at < end) & (end <= STORE) {
         let last = end - 1;
         for i in at..last {
             element[i] = element[i + 1];
@@ -23,7 +23,7 @@ pub fn close_criteria(criterion: &mut [u8; STORE], at: usize, end: usize)
     requires { ⌜ length (now criterion) ≡ 512 ⌝ }
     ensures { λ r. ⌜ now (criterion .exit) ≡ closedIn at end (now (criterion .entry)) ⌝ }
 {
-    if at < end && end <= STORE {
+    if (at < end) & (end <= STORE) {
         let last = end - 1;
         for i in at..last {
             criterion[i] = criterion[i + 1];

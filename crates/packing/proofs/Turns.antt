@@ -4,10 +4,10 @@ use mathlib.Core.Path.{_≡_, refl, sym, ap, _∙_}
 use mathlib.Core.Bool.{true, false}
 use mathlib.Core.List.{List, [], _∷_, _++_, append-assoc, append-nil}
 use native.Mathlib.Omega.{arith}
-use native.Mathlib.Nat.{mul-le-mul-left}
+use native.Mathlib.Nat.{mul-le-mul-left, mod-eq-of-lt}
 use native.Mathlib.Numerals.{add-one}
 use lib.ListN.{getD, set, length, take, drop, drop-of-length-le, length-append, length-drop, length-set, take-append-drop}
-use lib.Seq.{drop-cons, drop-drop, take-suc, take-all, take-at, drop-at, set-at, length-take-le}
+use lib.Seq.{drop-cons, drop-drop, take-suc, take-all, take-at, drop-at, set-at, set-split, length-take-le}
 use borrow.Author.Tests.{leb-true, le-leb}
 use borrow.Rule.Slice.PartMut.{putMid}
 use Rattle.rules.specs.declared.Timer.{Timer}
@@ -86,6 +86,15 @@ module _ (width at : ℕ) (block old : List ℕ) where
   numbers-more n i o x into s h e r =
       take-more _ width at (length block) n old i into x s h
       (numbers-suc width i (drop at block) ∙ rw (r, part-here width at i o block e))
+
+  -- a number of one byte is the byte itself
+  pub byte-more : (n i : ℕ) (into : List ℕ) → width ≡ 1 → TakingNumbers n i into → i < n → TakingNumbers n (i + 1) (set into i (getD block (at + i) 0))
+  unfolding number
+  byte-more n i into one s h =
+      let room : at + 1 * n ≤ length block = rw one at (s .room) in
+      let there : at + i < length block = omega arith in
+      let first : at + i + 1 - (at + i) ≡ 1 = omega arith in
+      numbers-more n i i _ into s h (rw one (omega arith)) (rw (one, first, drop-cons block (at + i) 0 there) (omega arith))
 
   pub numbers-end : (n i : ℕ) (into : List ℕ) → TakingNumbers n i into → n ≤ i → into ≡ taken width at block old
   unfolding taken
@@ -214,6 +223,20 @@ module _ (width at : ℕ) (ns old : List ℕ) where
   spread-more n i o block part s l h e r =
       put-more _ width at n old i o block part s h e (rw r (bytes-length width (getD ns i 0)))
       (rw (r, take-suc ns i 0 (omega arith)) (spread-snoc width (take i ns) (getD ns i 0)))
+
+  -- a number of one byte is the byte itself
+  pub byte-put : (n i : ℕ) (block : List ℕ) → width ≡ 1 → PuttingNumbers n i block → length ns ≡ n → i < n → getD ns i 0 < 256
+      → PuttingNumbers n (i + 1) (set block (at + i) (getD ns i 0))
+  unfolding bytes
+  byte-put n i block one s l h small =
+      let room : at + 1 * n ≤ length old = rw one at (s .room) in
+      let long = s .long in
+      let there : at + i < length block = omega arith in
+      let first : at + i + 1 - (at + i) ≡ 1 = omega arith in
+      let stored : putMid (at + i) (at + i + width - (at + i)) block (bytes width (getD ns i 0)) ≡ set block (at + i) (getD ns i 0) =
+      rw (one, first, mod-eq-of-lt small, drop-drop, add-one (at + i), set-split block (at + i) (getD ns i 0) there)
+      in
+      rw stored at (spread-more n i i block (bytes width (getD ns i 0)) s l h (rw one (omega arith)) refl)
 
   pub spread-end : (n i : ℕ) (block : List ℕ) → PuttingNumbers n i block → length ns ≡ n → n ≤ i → block ≡ put width at ns old
   unfolding put

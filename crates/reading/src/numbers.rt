@@ -4,13 +4,6 @@ ghost use mathlib.Core.Path.{_≡_};
 ghost use lib.ListN.{length};
 ghost use Rattle.packing.specs.Bytes.{number, taken};
 
-fn byte_in(p: &[u8]) -> u8
-    requires { ⌜ length (now p) ≡ 1 ⌝ }
-    ensures { λ r. ⌜ r ≡ number (now (p .entry)) ⌝ }
-{
-    p[0]
-}
-
 fn half_in(p: &[u8]) -> u16
     requires { ⌜ length (now p) ≡ 2 ⌝ }
     ensures { λ r. ⌜ r ≡ number (now (p .entry)) ⌝ }
@@ -27,9 +20,7 @@ pub fn take_bytes(block: &[u8], at: usize, into: &mut [u8])
         return;
     }
     for i in 0..n {
-        let from = at + i;
-        let to = from + 1;
-        into[i] = byte_in(&block[from..to]);
+        into[i] = block[at + i];
     }
 }
 

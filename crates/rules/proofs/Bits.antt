@@ -4,7 +4,7 @@ use mathlib.Core.Path.{_≡_, refl, sym, ap, _∙_}
 use mathlib.Core.Logic.{_≢_}
 use mathlib.Core.Bool.{Bool, true, false}
 use native.Mathlib.Omega.{arith}
-use native.Mathlib.Nat.{div-eq-of-lt, pow-suc, one-mul}
+use native.Mathlib.Nat.{suc-sub-suc, suc-min-suc, suc-max-suc, div-eq-of-lt, pow-suc, one-mul}
 use lib.Dec.{eqb, ltb}
 use lib.Arith.{bin-ind}
 use lib.Pow.{pow-pos, pow-lt, pow-add, shr-shr, shl-shr}
@@ -69,7 +69,7 @@ digit-xor a b = omega (arith, xor-step a b, differ-is (a % 2) (b % 2))
     differ-is : (x y : ℕ) → differ x y ≡ max x y - min x y
     differ-is zero y = omega arith
     differ-is (suc x) zero = omega arith
-    differ-is (suc x) (suc y) = let e = differ-is x y in omega arith
+    differ-is (suc x) (suc y) = rw (suc-max-suc, suc-min-suc, suc-sub-suc) (differ-is x y)
 
 pub bit-xor : (i a b : ℕ) → bit i (bitXor a b) ≡ max (bit i a) (bit i b) - min (bit i a) (bit i b)
 bit-xor i a b = ap (λ n. n % 2) (xor-shr a b i) ∙ digit-xor (a / 2 ^ i) (b / 2 ^ i)

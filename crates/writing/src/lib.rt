@@ -1,4 +1,4 @@
-// Writes numbers of one and two bytes into a block of bytes. Each loop cuts the bytes of one number out of the block, where the compiler can
+// Writes numbers of one and two bytes into a block of bytes. The two bytes of a number are cut out of the block, where the compiler can
 // see that they lie side by side, and makes one copy of the whole loop.
 mod numbers;
 

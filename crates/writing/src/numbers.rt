@@ -4,13 +4,6 @@ ghost use mathlib.Core.Path.{_≡_};
 ghost use lib.ListN.{length};
 ghost use Rattle.packing.specs.Bytes.{bytes, put};
 
-fn put_byte(p: &mut [u8], n: u8)
-    requires { ⌜ length (now p) ≡ 1 ⌝ }
-    ensures { λ _. ⌜ now (p .exit) ≡ bytes 1 n ⌝ }
-{
-    p[0] = n;
-}
-
 fn put_half(p: &mut [u8], n: u16)
     requires { ⌜ length (now p) ≡ 2 ⌝ }
     ensures { λ _. ⌜ now (p .exit) ≡ bytes 2 n ⌝ }
@@ -28,9 +21,7 @@ pub fn put_bytes(block: &mut [u8], at: usize, from: &[u8])
         return;
     }
     for i in 0..n {
-        let start = at + i;
-        let end = start + 1;
-        put_byte(&mut block[start..end], from[i]);
+        block[at + i] = from[i];
     }
 }
 

@@ -3,12 +3,9 @@ use borrow.Author.Needs.{needs}
 use native.Mathlib.Omega.{arith}
 use Prim.Native.Nat.{_≤_, _<_, _-_}
 use mathlib.Core.Path.{_≡_}
-use mathlib.Core.Logic.{⊎-elim}
-use borrow.Author.Tests.{leb-true}
 use Rattle.rules.specs.Numbers.{storeSize}
 use Rattle.closing.specs.Gaps.{closedIn}
-use Rattle.rules.proofs.Counts.{ends, tests}
-use Rattle.closing.proofs.Shifts.{shifted, shift-start, shift-again, shift-end}
+use Rattle.closing.proofs.Shifts.{shifted, there, shift-start, shift-again, shift-end}
 use Rattle.closing.proofs.close_elements.Statement.{statement}
 use Rattle.closing.proofs.close_elements.Tie as tie
 
@@ -19,10 +16,12 @@ abbrev μ-loop : tie.MeasureT-loop
 μ-loop element₀ at end last i₀ element i = last - i
 
 sub-last : tie.Need-sub-last Inv-loop μ-loop
-sub-last c = search needs
+sub-last c = let fits = there (c .before .args .at) (c .before .args .end) (c .if1 .taken) in search needs
 
 loop-holds : tie.Need-loop-holds Inv-loop μ-loop
-loop-holds c = (search needs, search needs, omega (arith, leb-true), shift-start _ _)
+loop-holds c =
+    let fits = there (c .before .args .at) (c .before .args .end) (c .if1 .taken) in
+    (search needs, search needs, omega arith, shift-start _ _)
 
 add-element : tie.Need-add-element Inv-loop μ-loop
 add-element c = search needs
@@ -46,7 +45,9 @@ loop-less : tie.Need-loop-less Inv-loop μ-loop
 loop-less c = search needs
 
 loop-again : tie.Need-loop-again Inv-loop μ-loop
-loop-again c = search (shift-again, ends)
+loop-again c =
+    let inv = c .before .before .loop .inv in
+    (search needs, search needs, inv .2, shift-again _ _ _ _ (inv .3) (inv .0) (omega arith))
 
 mul-element-3 : tie.Need-mul-element-3 Inv-loop μ-loop
 mul-element-3 c = search needs
@@ -55,11 +56,13 @@ element-write-element-2 : tie.Need-element-write-element-2 Inv-loop μ-loop
 element-write-element-2 c = search needs
 
 returns : tie.Need-returns Inv-loop μ-loop
-returns c = search (shift-end, ends)
+returns c =
+    let inv = c .before .loop .inv in
+    shift-end _ _ _ _ _ (inv .3) (inv .0) (inv .1) (search needs) (c .before .before .if1 .taken) (search needs)
 
 returns-2 : tie.Need-returns-2 Inv-loop μ-loop
 unfolding closedIn
-returns-2 c = ⊎-elim (λ w. search tests) (λ w. search tests) (c .if1 .came)
+returns-2 c = rw (c .if1 .left)
 
 pub close-elements-spec : {M : Type 1} → statement M
 close-elements-spec =

@@ -1,22 +1,16 @@
 -- A length is below 256, so that the sum fits; what is given out and what is closed is what the definition says.
 use borrow.Author.Needs.{needs}
 use native.Mathlib.Omega.{arith}
-use mathlib.Core.Path.{_≡_, refl, _∙_}
-use mathlib.Core.List.{List}
 use Prim.Native.Nat.{ℕ, _%_, _<_}
 use lib.ListN.{getD}
 use mir.Val.{Fits}
 use mir.Syntax.{w8}
-use Rattle.rules.specs.Numbers.{storeSize}
-use Rattle.closing.specs.Gaps.{closedIn}
+use Rattle.queue_calls.proofs.Given.{retrieved}
 use Rattle.queue_calls.proofs.retrieve.retrieve_call.Statement.{statement}
 use Rattle.queue_calls.proofs.retrieve.retrieve_call.Tie as tie
 
 length-small : (c : tie.Start) (i : ℕ) → getD (c .args .t1 .length) i 0 < 256
 length-small c i = let f : Fits w8 (getD (c .args .t1 .length) i 0) = search needs in f .fits
-
-closed-there : {p r : ℕ} (end : ℕ) (store : List ℕ) → p ≡ r → closedIn (p % storeSize) end store ≡ closedIn (r % storeSize) end store
-closed-there end store e = rw e
 
 cast-at : tie.Need-cast-at
 cast-at c = search needs
@@ -58,7 +52,10 @@ element-write-t : tie.Need-element-write-t
 element-write-t c = search needs
 
 returns : tie.Need-returns
-returns c = (rw (← c .before .before .before .before .before .before .before .place-of .ensures) (rw (c .wrapping-add-u8 .ensures) refl), (c .before .before .before .close-elements .ensures ∙ closed-there _ _ (c .before .before .before .before .before .before .before .place-of .ensures), c .before .close-criteria .ensures ∙ closed-there _ _ (c .before .before .before .before .before .before .before .place-of .ensures)))
+returns c =
+    let a = c .before .before .before .before .before .before .before .before .before .before .before .args in
+    retrieved (a .t1) (a .k) (a .element .now) (a .criterion .now) (c .before .before .before .before .before .before .before .place-of .ensures)
+    (c .wrapping-add-u8 .ensures) (c .before .before .before .close-elements .ensures) (c .before .close-criteria .ensures)
 
 pub retrieve-call-spec : {M : Type 1} → statement M
 retrieve-call-spec =

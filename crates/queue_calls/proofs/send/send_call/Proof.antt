@@ -6,6 +6,7 @@ use Prim.Native.Nat.{ℕ, _%_, _<_}
 use lib.ListN.{getD}
 use mir.Val.{Fits}
 use mir.Syntax.{w8}
+use Rattle.queue_calls.proofs.Given.{sent}
 use Rattle.queue_calls.proofs.send.send_call.Statement.{statement}
 use Rattle.queue_calls.proofs.send.send_call.Tie as tie
 
@@ -46,7 +47,7 @@ element-write-t : tie.Need-element-write-t
 element-write-t c = search needs
 
 returns : tie.Need-returns
-returns c = (rw (c .wrapping-add-u8 .ensures) refl, (refl, refl))
+returns c = let a = c .before .before .before .before .args in (sent (a .t1) (a .k) (a .element .now) (a .criterion .now) (c .wrapping-add-u8 .ensures), (refl, refl))
 
 pub send-call-spec : {M : Type 1} → statement M
 send-call-spec =

@@ -4,7 +4,7 @@ use native.Mathlib.Omega.{arith}
 use Prim.Native.Nat.{_-_}
 use mathlib.Core.Path.{refl, sym, _∙_}
 use borrow.Author.Tests.{not-true, not-false}
-use Rattle.packing.proofs.Turns.{TakingNumbers, numbers-start, numbers-more, numbers-end, numbers-none}
+use Rattle.packing.proofs.Turns.{TakingNumbers, numbers-start, byte-more, numbers-end, numbers-none}
 use Rattle.reading.proofs.numbers.take_bytes.Statement.{statement}
 use Rattle.reading.proofs.numbers.take_bytes.Tie as tie
 
@@ -23,23 +23,11 @@ returns c = numbers-none 1 _ _ _ _ (sym (c .before .has-room .ensures) ∙ not-t
 loop-holds : tie.Need-loop-holds Inv-loop μ-loop
 loop-holds c = numbers-start 1 _ _ _ _ (sym (c .before .has-room .ensures) ∙ not-false _ (c .if1 .left)) refl
 
-add-from : tie.Need-add-from Inv-loop μ-loop
-add-from c = search needs
+add-into : tie.Need-add-into Inv-loop μ-loop
+add-into c = search needs
 
-add-to : tie.Need-add-to Inv-loop μ-loop
-add-to c = search needs
-
-sub-byte-in : tie.Need-sub-byte-in Inv-loop μ-loop
-sub-byte-in c = search needs
-
-part-byte-in-start : tie.Need-part-byte-in-start Inv-loop μ-loop
-part-byte-in-start c = search needs
-
-part-byte-in-end : tie.Need-part-byte-in-end Inv-loop μ-loop
-part-byte-in-end c = search needs
-
-byte-in-requires : tie.Need-byte-in-requires Inv-loop μ-loop
-byte-in-requires c κs = search needs
+shared-slice-read-into : tie.Need-shared-slice-read-into Inv-loop μ-loop
+shared-slice-read-into c = search needs
 
 slice-write-into : tie.Need-slice-write-into Inv-loop μ-loop
 slice-write-into c = search needs
@@ -51,7 +39,7 @@ loop-less : tie.Need-loop-less Inv-loop μ-loop
 loop-less c = search needs
 
 loop-again : tie.Need-loop-again Inv-loop μ-loop
-loop-again c = numbers-more 1 _ _ _ _ _ (c .before .before .before .loop .i) _ _ (c .before .before .before .loop .inv) (search needs) (omega arith) (c .byte-in .ensures)
+loop-again c = byte-more 1 _ _ _ _ _ _ refl (c .before .before .loop .inv) (search needs)
 
 same-length : tie.Need-same-length Inv-loop μ-loop
 same-length c = omega arith
@@ -68,12 +56,8 @@ take-bytes-spec =
     has-room-requires
     returns
     loop-holds
-    add-from
-    add-to
-    sub-byte-in
-    part-byte-in-start
-    part-byte-in-end
-    byte-in-requires
+    add-into
+    shared-slice-read-into
     slice-write-into
     add-i
     loop-less

@@ -4,7 +4,7 @@ use native.Mathlib.Omega.{arith}
 use Prim.Native.Nat.{_-_}
 use mathlib.Core.Path.{refl, sym, _∙_}
 use borrow.Author.Tests.{not-true, not-false}
-use Rattle.packing.proofs.Turns.{PuttingNumbers, spread-start, spread-more, spread-end, spread-none}
+use Rattle.packing.proofs.Turns.{PuttingNumbers, spread-start, byte-put, spread-end, spread-none}
 use Rattle.writing.proofs.numbers.put_bytes.Statement.{statement}
 use Rattle.writing.proofs.numbers.put_bytes.Tie as tie
 
@@ -23,26 +23,14 @@ returns c = spread-none 1 _ _ _ _ (sym (c .before .has-room .ensures) ∙ not-tr
 loop-holds : tie.Need-loop-holds Inv-loop μ-loop
 loop-holds c = spread-start 1 _ _ _ _ (sym (c .before .has-room .ensures) ∙ not-false _ (c .if1 .left))
 
-add-start : tie.Need-add-start Inv-loop μ-loop
-add-start c = search needs
+shared-slice-read-block : tie.Need-shared-slice-read-block Inv-loop μ-loop
+shared-slice-read-block c = search needs
 
-add-end : tie.Need-add-end Inv-loop μ-loop
-add-end c = search needs
+add-block : tie.Need-add-block Inv-loop μ-loop
+add-block c = search needs
 
-sub-put-byte : tie.Need-sub-put-byte Inv-loop μ-loop
-sub-put-byte c = search needs
-
-part-put-byte-start : tie.Need-part-put-byte-start Inv-loop μ-loop
-part-put-byte-start c = search needs
-
-part-put-byte-end : tie.Need-part-put-byte-end Inv-loop μ-loop
-part-put-byte-end c = search needs
-
-shared-slice-read-put-byte : tie.Need-shared-slice-read-put-byte Inv-loop μ-loop
-shared-slice-read-put-byte c = search needs
-
-put-byte-requires : tie.Need-put-byte-requires Inv-loop μ-loop
-put-byte-requires c κs = search needs
+slice-write-block : tie.Need-slice-write-block Inv-loop μ-loop
+slice-write-block c = search needs
 
 add-i : tie.Need-add-i Inv-loop μ-loop
 add-i c = search needs
@@ -51,7 +39,7 @@ loop-less : tie.Need-loop-less Inv-loop μ-loop
 loop-less c = search needs
 
 loop-again : tie.Need-loop-again Inv-loop μ-loop
-loop-again c = spread-more 1 _ _ _ _ _ (c .before .before .before .before .before .before .loop .i) _ _ (c .before .before .before .before .before .before .loop .inv) refl (search needs) (omega arith) (c .before .before .put-byte .ensures)
+loop-again c = byte-put 1 _ _ _ _ _ _ refl (c .before .before .loop .inv) refl (search needs) (omega (arith, c .shared-slice-known2 .given (c .before .before .loop .i)))
 
 same-length : tie.Need-same-length Inv-loop μ-loop
 same-length c = omega arith
@@ -68,13 +56,9 @@ put-bytes-spec =
     has-room-requires
     returns
     loop-holds
-    add-start
-    add-end
-    sub-put-byte
-    part-put-byte-start
-    part-put-byte-end
-    shared-slice-read-put-byte
-    put-byte-requires
+    shared-slice-read-block
+    add-block
+    slice-write-block
     add-i
     loop-less
     loop-again

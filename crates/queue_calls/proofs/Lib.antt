@@ -1,0 +1,2 @@
+-- A law for this crate's proofs.
+mod Given
