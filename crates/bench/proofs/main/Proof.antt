@@ -1,14 +1,17 @@
 -- The buffers have the sizes that a run asks for.
 use borrow.Author.Needs.{needs}
 use native.Mathlib.Omega.{arith}
+use Prim.Native.Nat.{ℕ}
+use mathlib.Core.Path.{sym}
+use lib.ListN.{length-replicate}
 use Rattle.bench.proofs.main.Statement.{statement}
 use Rattle.bench.proofs.main.Tie as tie
 
 slice-aggregate-run : tie.Need-slice-aggregate-run
-slice-aggregate-run c = search needs
+slice-aggregate-run c = sym (length-replicate {A = ℕ} _ 0)
 
 slice-aggregate-run-2 : tie.Need-slice-aggregate-run-2
-slice-aggregate-run-2 c = search needs
+slice-aggregate-run-2 c = sym (length-replicate {A = ℕ} _ 0)
 
 run-requires : tie.Need-run-requires
 run-requires c κs = (omega arith, omega arith)
