@@ -1,24 +1,14 @@
 -- One task is written; where its state changes, the election and the timers are those of the definition.
 use borrow.Author.Needs.{needs}
-use Prim.Native.Nat.{ℕ, _%_}
 use mathlib.Core.Path.{_≡_, ap}
 use lib.ListN.{length, length-set}
-use Rattle.rules.specs.declared.Table.{Table}
-use Rattle.rules.specs.declared.Call.{Call}
-use Rattle.rules.specs.declared.Done.{Done}
-use Rattle.rules.specs.Numbers.{taskRoom}
-use Rattle.task_effects.specs.Effects.{target}
 use Rattle.fronts.specs.Fronts.{frontDone, storeless}
-use Rattle.task_calls.specs.Made.{taskMadeAt, taskMade}
 use Rattle.task_calls.proofs.Changed.{state-kept, state-changed}
 use Rattle.task_calls.proofs.task_call.Statement.{statement}
 use Rattle.task_calls.proofs.task_call.Tie as tie
 
 long : (c : tie.Start) → (length (c .args .t1 .priority) ≡ 32) × ((length (c .args .t1 .state) ≡ 32) × (length (c .args .t1 .holder) ≡ 16))
 long c = (search needs, (search needs, search needs))
-
-at-target : (t : Table) (k : Call) {i : ℕ} {d : Done} → i ≡ target k → d ≡ taskMadeAt (i % taskRoom) t k → frontDone d ≡ frontDone (taskMade t k)
-at-target t k e p = rw (← e) (ap frontDone p)
 
 target-of-requires : tie.Need-target-of-requires
 target-of-requires c κs = search needs
@@ -78,7 +68,7 @@ element-write-t-4 : tie.Need-element-write-t-4
 element-write-t-4 c = search needs
 
 returns : tie.Need-returns
-returns c = let s = c .before .before .before .before .before .before .before .before .before .before .before .before .before .before in at-target (storeless (s .args .t1)) (s .args .k) (c .before .before .before .before .before .before .before .before .before .before .before .before .before .target-of .ensures) (state-kept (storeless (s .args .t1)) (s .args .k) _ _ _ _ (c .before .before .before .before .before .task-after .ensures) (c .before .before .before .before .before .before .met-by .ensures) (c .before .before .before .pick .ensures) (c .if1 .taken))
+returns c = rw (← c .before .before .before .before .before .before .before .before .before .before .before .before .before .target-of .ensures) (ap frontDone (state-kept (storeless ((c .before .before .before .before .before .before .before .before .before .before .before .before .before .before) .args .t1)) ((c .before .before .before .before .before .before .before .before .before .before .before .before .before .before) .args .k) _ _ _ _ (c .before .before .before .before .before .task-after .ensures) (c .before .before .before .before .before .before .met-by .ensures) (c .before .before .before .pick .ensures) (c .if1 .taken)))
 
 held-by-requires : tie.Need-held-by-requires
 held-by-requires c κs = long (c .before .before .before .before .before .before .before .before .before .before .before .before .before .before .before .before) .1 .1
@@ -93,7 +83,7 @@ timers-left-requires : tie.Need-timers-left-requires
 timers-left-requires c κs = search needs
 
 returns-2 : tie.Need-returns-2
-returns-2 c = let s = c .before .before .before .before .before .before .before .before .before .before .before .before .before .before .before .before .before .before .before .before .before .before .before in at-target (storeless (s .args .t1)) (s .args .k) (c .before .before .before .before .before .before .before .before .before .before .before .before .before .before .before .before .before .before .before .before .before .before .target-of .ensures) (state-changed (storeless (s .args .t1)) (s .args .k) _ _ _ _ (c .before .before .before .before .before .before .before .before .before .before .before .before .before .before .task-after .ensures) (c .before .before .before .before .before .before .before .before .before .before .before .before .before .before .before .met-by .ensures) (c .before .before .before .before .before .before .before .before .before .before .before .before .pick .ensures) (c .before .before .before .before .before .before .before .before .before .if1 .left) _ _ _ (c .timers-left .ensures) (c .before .before .before .before .before .before .held-by .ensures) (c .before .before .elected-by .ensures))
+returns-2 c = rw (← c .before .before .before .before .before .before .before .before .before .before .before .before .before .before .before .before .before .before .before .before .before .before .target-of .ensures) (ap frontDone (state-changed (storeless ((c .before .before .before .before .before .before .before .before .before .before .before .before .before .before .before .before .before .before .before .before .before .before .before) .args .t1)) ((c .before .before .before .before .before .before .before .before .before .before .before .before .before .before .before .before .before .before .before .before .before .before .before) .args .k) _ _ _ _ (c .before .before .before .before .before .before .before .before .before .before .before .before .before .before .task-after .ensures) (c .before .before .before .before .before .before .before .before .before .before .before .before .before .before .before .met-by .ensures) (c .before .before .before .before .before .before .before .before .before .before .before .before .pick .ensures) (c .before .before .before .before .before .before .before .before .before .if1 .left) _ _ _ (c .timers-left .ensures) (c .before .before .before .before .before .before .held-by .ensures) (c .before .before .elected-by .ensures)))
 
 pub task-call-spec : {M : Type 1} → statement M
 task-call-spec =

@@ -48,22 +48,22 @@ mul-into : tie.Need-mul-into Inv-loop μ-loop
 mul-into c = search needs
 
 slice-write-into : tie.Need-slice-write-into Inv-loop μ-loop
-slice-write-into c = omega (arith, c .before .before .loop-test .taken, c .before .before .before .loop .inv)
+slice-write-into c = search needs
 
 add-i : tie.Need-add-i Inv-loop μ-loop
-add-i c = omega (arith, c .before .before .loop-test .taken, c .before .before .before .before .before .before .before .before .good)
+add-i c = search needs
 
 loop-less : tie.Need-loop-less Inv-loop μ-loop
-loop-less c = omega (arith, c .before .before .loop-test .taken)
+loop-less c = search needs
 
 loop-again : tie.Need-loop-again Inv-loop μ-loop
-loop-again c = numbers-more 2 _ _ _ _ _ (2 * c .before .before .before .loop .i) _ _ (c .before .before .before .loop .inv) (c .before .before .loop-test .taken) refl (c .half-in .ensures)
+loop-again c = numbers-more 2 _ _ _ _ _ (2 * c .before .before .before .loop .i) _ _ (c .before .before .before .loop .inv) (search needs) (omega arith) (c .half-in .ensures)
 
 same-length : tie.Need-same-length Inv-loop μ-loop
 same-length c = omega arith
 
 returns-2 : tie.Need-returns-2 Inv-loop μ-loop
-returns-2 c = numbers-end 2 _ _ _ _ _ _ (c .before .loop .inv) (c .loop-test .left)
+returns-2 c = numbers-end 2 _ _ _ _ _ _ (c .before .loop .inv) (search needs)
 
 pub take-halves-spec : {M : Type 1} → statement M
 take-halves-spec =

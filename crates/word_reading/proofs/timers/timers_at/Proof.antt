@@ -48,16 +48,16 @@ array-set-from-out : tie.Need-array-set-from-out Inv-loop μ-loop
 array-set-from-out c = search needs
 
 add-i : tie.Need-add-i Inv-loop μ-loop
-add-i c = omega (arith, c .before .before .loop-test .taken)
+add-i c = search needs
 
 loop-less : tie.Need-loop-less Inv-loop μ-loop
-loop-less c = omega (arith, c .before .before .loop-test .taken)
+loop-less c = search needs
 
 loop-again : tie.Need-loop-again Inv-loop μ-loop
-loop-again c = timers-more _ _ _ _ (8 * c .before .before .before .loop .i) _ _ (c .before .before .before .loop .inv) (c .before .before .loop-test .taken) refl (c .timer-in .ensures)
+loop-again c = timers-more _ _ _ _ (8 * c .before .before .before .loop .i) _ _ (c .before .before .before .loop .inv) (search needs) (omega arith) (c .timer-in .ensures)
 
 returns : tie.Need-returns Inv-loop μ-loop
-returns c = timers-end _ _ _ _ _ (c .before .loop .inv) (c .loop-test .left)
+returns c = timers-end _ _ _ _ _ (c .before .loop .inv) (search needs)
 
 returns-2 : tie.Need-returns-2 Inv-loop μ-loop
 unfolding timersTaken

@@ -2,7 +2,7 @@
 use borrow.Author.Needs.{needs}
 use native.Mathlib.Omega.{arith}
 use Prim.Native.Nat.{_-_, _*_}
-use mathlib.Core.Path.{refl, sym, _∙_}
+use mathlib.Core.Path.{sym, _∙_}
 use borrow.Author.Tests.{not-true, not-false}
 use Rattle.packing.specs.Timers.{timersPut}
 use Rattle.packing.proofs.Turns.{PuttingTimers, timers-put-start, timers-put-more, timers-put-end}
@@ -53,19 +53,19 @@ put-timer-requires : tie.Need-put-timer-requires Inv-loop μ-loop
 put-timer-requires c κs = search needs
 
 add-i : tie.Need-add-i Inv-loop μ-loop
-add-i c = omega (arith, c .before .before .before .before .before .loop-test .taken)
+add-i c = search needs
 
 loop-less : tie.Need-loop-less Inv-loop μ-loop
-loop-less c = omega (arith, c .before .before .before .before .before .loop-test .taken)
+loop-less c = search needs
 
 loop-again : tie.Need-loop-again Inv-loop μ-loop
-loop-again c = timers-put-more _ _ _ _ (8 * c .before .before .before .before .before .before .loop .i) _ _ _ (c .before .before .before .before .before .before .loop .inv) (search needs) (c .before .before .before .before .before .loop-test .taken) refl (c .before .before .put-timer .ensures)
+loop-again c = timers-put-more _ _ _ _ (8 * c .before .before .before .before .before .before .loop .i) _ _ _ (c .before .before .before .before .before .before .loop .inv) (search needs) (search needs) (omega arith) (c .before .before .put-timer .ensures)
 
 same-length : tie.Need-same-length Inv-loop μ-loop
 same-length c = omega arith
 
 returns-2 : tie.Need-returns-2 Inv-loop μ-loop
-returns-2 c = timers-put-end _ _ _ _ _ (c .before .loop .inv) (search needs) (c .loop-test .left)
+returns-2 c = timers-put-end _ _ _ _ _ (c .before .loop .inv) (search needs) (search needs)
 
 pub put-timers-spec : {M : Type 1} → statement M
 put-timers-spec =

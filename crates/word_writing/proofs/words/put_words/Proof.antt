@@ -45,25 +45,25 @@ mul-put-word : tie.Need-mul-put-word Inv-loop μ-loop
 mul-put-word c = search needs
 
 shared-slice-read-put-word : tie.Need-shared-slice-read-put-word Inv-loop μ-loop
-shared-slice-read-put-word c = omega (arith, c .before .before .loop-test .taken)
+shared-slice-read-put-word c = search needs
 
 put-word-requires : tie.Need-put-word-requires Inv-loop μ-loop
 put-word-requires c κs = search needs
 
 add-i : tie.Need-add-i Inv-loop μ-loop
-add-i c = omega (arith, c .before .before .before .before .before .loop-test .taken, c .before .before .before .before .before .before .before .before .before .before .before .good)
+add-i c = search needs
 
 loop-less : tie.Need-loop-less Inv-loop μ-loop
-loop-less c = omega (arith, c .before .before .before .before .before .loop-test .taken)
+loop-less c = search needs
 
 loop-again : tie.Need-loop-again Inv-loop μ-loop
-loop-again c = spread-more 4 _ _ _ _ _ (4 * c .before .before .before .before .before .before .loop .i) _ _ (c .before .before .before .before .before .before .loop .inv) refl (c .before .before .before .before .before .loop-test .taken) refl (c .before .before .put-word .ensures)
+loop-again c = spread-more 4 _ _ _ _ _ (4 * c .before .before .before .before .before .before .loop .i) _ _ (c .before .before .before .before .before .before .loop .inv) refl (search needs) (omega arith) (c .before .before .put-word .ensures)
 
 same-length : tie.Need-same-length Inv-loop μ-loop
 same-length c = omega arith
 
 returns-2 : tie.Need-returns-2 Inv-loop μ-loop
-returns-2 c = spread-end 4 _ _ _ _ _ _ (c .before .loop .inv) refl (c .loop-test .left)
+returns-2 c = spread-end 4 _ _ _ _ _ _ (c .before .loop .inv) refl (search needs)
 
 pub put-words-spec : {M : Type 1} → statement M
 put-words-spec =
