@@ -9,7 +9,8 @@ use Rattle.rules.specs.declared.Done.{Done}
 use Rattle.rules.specs.Numbers.{taskRoom, WAIT}
 use Rattle.rules.specs.Events.{met}
 use Rattle.rules.specs.Tables.{taskOf, withTask, withTimers, settled}
-use Rattle.task_effects.specs.Effects.{target, taskAfter, timersLeft}
+use Rattle.task_effects.specs.Effects.{target, taskAfter}
+use Rattle.timer_effects.specs.Effects.{timersLeft}
 use Rattle.fronts.specs.Fronts.{told}
 
 -- a WAIT whose condition isn't met

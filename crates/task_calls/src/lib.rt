@@ -10,7 +10,7 @@ use rules::Call;
 use rules::Task;
 use task_effects::target_of;
 use task_effects::task_after;
-use task_effects::timers_left;
+use timer_effects::timers_left;
 ghost use mathlib.Core.Path.{_≡_};
 ghost use Rattle.fronts.specs.Fronts.{frontDone, storeless};
 ghost use Rattle.task_calls.specs.Made.{taskMade};

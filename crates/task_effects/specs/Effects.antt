@@ -1,14 +1,11 @@
 -- The first six operations as one change of one task, for the code's shape.
 use Prim.Native.Nat.{ℕ, _%_}
-use mathlib.Core.Bool.{cond, _||_}
-use mathlib.Core.List.{List, map}
+use mathlib.Core.Bool.{cond}
 use lib.Dec.{eqb, ltb}
 use Rattle.rules.specs.declared.Task.{Task}
-use Rattle.rules.specs.declared.Timer.{Timer}
 use Rattle.rules.specs.declared.Call.{Call}
-use Rattle.rules.specs.Numbers.{START, STOP, END, SIGNAL, WAIT, CLEAR}
+use Rattle.rules.specs.Numbers.{START, SIGNAL, WAIT, CLEAR}
 use Rattle.rules.specs.Tasks.{asStarted, asStopped, signalled, waited, asCleared}
-use Rattle.rules.specs.Timers.{disarmed}
 
 -- which task a call changes
 unfoldable pub target : Call → ℕ
@@ -21,7 +18,3 @@ taskAfter c r =
     (cond (eqb (c .operation) SIGNAL) (signalled (c .a % 16) r)
     (cond (eqb (c .operation) WAIT) (waited (c .a % 65536) (c .b % 256) r)
     (cond (eqb (c .operation) CLEAR) (asCleared (c .a % 65536) r) (asStopped r))))
-
--- all timers after an operation on a task: STOP and END disarm those that it armed
-abbrev pub timersLeft : ℕ → ℕ → List Timer → List Timer
-timersLeft operation task timers = cond (eqb operation STOP || eqb operation END) (map (disarmed task) timers) timers

@@ -1,13 +1,11 @@
-// What an accepted call does to one task, and to the timers of a task that it stops.
-use arming::disarmed_all;
+// What an accepted call does to one task.
 use conditions::met_by;
 use conditions::signalled_by;
 use rules::Call;
 use rules::Task;
-use rules::Timer;
 ghost use mathlib.Core.Path.{_≡_};
 ghost use Rattle.rules.specs.Tasks.{waited, asCleared};
-ghost use Rattle.task_effects.specs.Effects.{target, taskAfter, timersLeft};
+ghost use Rattle.task_effects.specs.Effects.{target, taskAfter};
 
 // Which task the call changes: the one that START, STOP and SIGNAL name, else the caller.
 pub fn target_of(k: Call) -> u32
@@ -71,14 +69,4 @@ pub fn task_after(k: Call, r: Task) -> Task
             operator: 0,
         },
     }
-}
-
-// All timers after an operation on a task.
-pub fn timers_left(operation: u8, task: u8, timers: [Timer; 16]) -> [Timer; 16]
-    ensures { λ r. ⌜ r ≡ timersLeft operation task timers ⌝ }
-{
-    if (operation == 1) | (operation == 2) {
-        return disarmed_all(task, timers);
-    }
-    timers
 }

@@ -1,11 +1,12 @@
-// What an accepted ARM or DISARM does to one timer.
+// What an accepted ARM or DISARM does to one timer, and an operation on a task to all of them.
+use arming::disarmed_all;
 use clock::later_by;
 use one_timer::armed_timer;
 use one_timer::disarmed_timer;
 use rules::Call;
 use rules::Timer;
 ghost use mathlib.Core.Path.{_≡_};
-ghost use Rattle.timer_effects.specs.Effects.{timerAfter};
+ghost use Rattle.timer_effects.specs.Effects.{timerAfter, timersLeft};
 
 // The timer after ARM or DISARM.
 pub fn timer_after(k: Call, ticks: u32, r: Timer) -> Timer
@@ -16,4 +17,14 @@ pub fn timer_after(k: Call, ticks: u32, r: Timer) -> Timer
         return armed_timer(k.caller, (k.b % 256) as u8, date);
     }
     disarmed_timer(k.caller, r)
+}
+
+// All timers after an operation on a task.
+pub fn timers_left(operation: u8, task: u8, timers: [Timer; 16]) -> [Timer; 16]
+    ensures { λ r. ⌜ r ≡ timersLeft operation task timers ⌝ }
+{
+    if (operation == 1) | (operation == 2) {
+        return disarmed_all(task, timers);
+    }
+    timers
 }

@@ -30,9 +30,9 @@ use Rattle.rules.proofs.Refusals.{Accepted}
 use Rattle.rules.proofs.Entries.{entries-most}
 use Rattle.rules.proofs.Lists.{altered-set}
 use Rattle.rules.proofs.Effects.{upto}
-use Rattle.task_effects.specs.Effects.{target, taskAfter, timersLeft}
+use Rattle.task_effects.specs.Effects.{target, taskAfter}
 use Rattle.region_effects.specs.Effects.{regionAfter}
-use Rattle.timer_effects.specs.Effects.{timerAfter}
+use Rattle.timer_effects.specs.Effects.{timerAfter, timersLeft}
 
 module _ (t : Table) (c : Call) (a : Accepted t c) where
   parts : Parts t

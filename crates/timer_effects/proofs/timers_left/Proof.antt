@@ -1,8 +1,8 @@
 -- STOP and END disarm what the task armed; after the others all timers are as they were.
 use borrow.Author.Needs.{needs}
 use mathlib.Core.Path.{refl, _∙_}
-use Rattle.task_effects.proofs.timers_left.Statement.{statement}
-use Rattle.task_effects.proofs.timers_left.Tie as tie
+use Rattle.timer_effects.proofs.timers_left.Statement.{statement}
+use Rattle.timer_effects.proofs.timers_left.Tie as tie
 
 disarmed-all-requires : tie.Need-disarmed-all-requires
 disarmed-all-requires c κs = search needs
