@@ -1,11 +1,11 @@
 // Make fresh, on a block.
-use configure::fresh;
-use fronts::front_of;
 use layout::SIZE;
 use packing::NOT_A_TABLE;
 use packing::answer_number;
 use rules::Table;
 use table_writing::pack_whole;
+use tables::fresh;
+use tables::front_of;
 ghost use mathlib.Core.Path.{_≡_};
 ghost use lib.ListN.{length};
 ghost use Rattle.layout.specs.Layout.{blockSize, packed};

@@ -1,6 +1,5 @@
 // One query, on a block: the queries by number, on the table that the block holds.
 use front_reading::front_in;
-use fronts::table_of;
 use layout::SIZE;
 use layout::unused_zero;
 use packing::NOT_A_TABLE;
@@ -14,6 +13,7 @@ use rules::Answer;
 use rules::STORE;
 use rules::Table;
 use store_reading::store_in;
+use tables::table_of;
 use whole_table::is_valid;
 ghost use mathlib.Core.Path.{_≡_};
 ghost use mathlib.Core.Bool.{cond};

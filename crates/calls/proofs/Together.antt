@@ -11,9 +11,9 @@ use Rattle.rules.specs.Words.{isZero}
 use Rattle.rules.specs.Refusals.{refusal}
 use Rattle.rules.specs.Step.{step}
 use Rattle.rules.proofs.Effects.{contents-kept}
-use Rattle.fronts.specs.declared.Front.{Front}
-use Rattle.fronts.specs.declared.FrontDone.{FrontDone}
-use Rattle.fronts.specs.Fronts.{whole, frontOf, frontDone}
+use Rattle.tables.specs.declared.fronts.Front.{Front}
+use Rattle.tables.specs.declared.fronts.FrontDone.{FrontDone}
+use Rattle.tables.specs.Fronts.{whole, frontOf, frontDone}
 
 -- only SEND and RETRIEVE change the store
 pub step-contents : (t : Table) (c : Call) → (eqb (c .operation) SEND || eqb (c .operation) RETRIEVE) ≡ false

@@ -1,13 +1,13 @@
 // One call on a table whose store is lent, with the validity check before it.
 use front_validity::front_valid;
-use fronts::Front;
-use fronts::FrontDone;
 use rules::Call;
+use tables::Front;
+use tables::FrontDone;
 use told_calls::call_told;
 ghost use mathlib.Core.Path.{_≡_};
 ghost use lib.ListN.{length};
 ghost use Rattle.rules.specs.Step.{step};
-ghost use Rattle.fronts.specs.Fronts.{whole, frontDone};
+ghost use Rattle.tables.specs.Fronts.{whole, frontDone};
 
 pub fn call_checked(
     f: Front,

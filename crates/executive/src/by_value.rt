@@ -1,10 +1,10 @@
 // One call on a table by value.
 use calls::call_checked;
-use fronts::front_of;
-use fronts::table_of;
 use rules::Call;
 use rules::Done;
 use rules::Table;
+use tables::front_of;
+use tables::table_of;
 ghost use mathlib.Core.Path.{_≡_};
 ghost use Rattle.rules.specs.Step.{step};
 

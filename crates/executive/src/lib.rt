@@ -3,9 +3,9 @@
 mod by_value;
 
 pub use by_value::call;
-pub use configure::fresh;
 pub use queries::arrived;
 pub use queries::empty;
 pub use queries::full;
 pub use queries::priority;
 pub use queries::state;
+pub use tables::fresh;

@@ -21,9 +21,9 @@ use Rattle.rules.specs.Words.{isZero}
 use Rattle.rules.proofs.Bools.{and-left, and-right, not-intro}
 use Rattle.first_lines.proofs.Plain.{not-true}
 use Rattle.rules.specs.Numbers.{storeSize}
-use Rattle.fronts.specs.declared.Front.{Front}
-use Rattle.fronts.specs.declared.FrontDone.{FrontDone}
-use Rattle.fronts.specs.Fronts.{whole, frontOf, frontDone}
+use Rattle.tables.specs.declared.fronts.Front.{Front}
+use Rattle.tables.specs.declared.fronts.FrontDone.{FrontDone}
+use Rattle.tables.specs.Fronts.{whole, frontOf, frontDone}
 use Rattle.bench_line.specs.declared.Heard.{Heard}
 use Rattle.bench_line.specs.Steps.{malformed, lineDone, heardDone}
 use Rattle.theorems.proofs.Kept.{store-kept}

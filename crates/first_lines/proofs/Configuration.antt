@@ -16,7 +16,7 @@ use Rattle.rules.proofs.Bools.{given}
 use Rattle.rules.proofs.Lists.{every-cons, every-nil, every-take, every-drop, padded-at, padded-past, length-padded}
 use Rattle.digits.specs.Digits.{value, field}
 use Rattle.fields.proofs.Values.{value-fits}
-use Rattle.configure.proofs.Fills.{filled, filled-again, filled-end}
+use Rattle.tables.proofs.Fills.{filled, filled-again, filled-end}
 use Rattle.lines.specs.Ends.{part}
 use Rattle.opening.specs.Start.{firstRefused}
 use Rattle.first_lines.specs.First.{plain, numbers, tasksIn, regionsIn, queuesIn, prioritiesIn, boundsIn, firstReasons, firstLine}

@@ -1,9 +1,9 @@
 // The first line of a session, which is the configuration.
-use configure::fresh;
 use digits::all_digits;
 use fields::byte_at;
 use opening::first_refused;
 use rules::Done;
+use tables::fresh;
 use validity::counts_right;
 ghost use mathlib.Core.Path.{_≡_};
 ghost use mathlib.Core.Bool.{true, false, _||_};

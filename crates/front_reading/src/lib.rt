@@ -1,5 +1,4 @@
 // The front read from a block: all of the table but the store.
-use fronts::Front;
 use layout::ARRIVED;
 use layout::BOUND;
 use layout::ENTRIES;
@@ -11,12 +10,13 @@ use layout::PRIORITY;
 use layout::STATE;
 use layout::TICKS;
 use layout::TIMER;
-use lookups::byte_at;
 use reading::take_bytes;
 use reading::take_halves;
 use rules::QUEUES;
 use rules::REGIONS;
 use rules::TASKS;
+use tables::Front;
+use tables::byte_at;
 use word_reading::take_words;
 use word_reading::timers_at;
 ghost use mathlib.Core.Path.{_≡_};

@@ -1,10 +1,10 @@
 // Whether a table is valid, given as a front and a lent store.
-use fronts::Front;
+use tables::Front;
 use validity::valid_of;
 ghost use mathlib.Core.Path.{_≡_};
 ghost use lib.ListN.{length};
 ghost use Rattle.rules.specs.Validity.{valid};
-ghost use Rattle.fronts.specs.Fronts.{whole};
+ghost use Rattle.tables.specs.Fronts.{whole};
 
 pub fn front_valid<'a>(f: Front, element: &'a [u32; 512], criterion: &'a [u8; 512]) -> bool
     requires { ⌜ length (now element) ≡ 512 ⌝ }

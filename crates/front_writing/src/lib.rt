@@ -1,5 +1,4 @@
 // All that stands before the store, written to a block.
-use fronts::Front;
 use layout::ARRIVED;
 use layout::BOUND;
 use layout::ENTRIES;
@@ -9,6 +8,7 @@ use layout::LIST;
 use layout::OPERATOR;
 use layout::PRIORITY;
 use layout::STATE;
+use tables::Front;
 use writing::put_bytes;
 use writing::put_halves;
 ghost use mathlib.Core.Path.{_≡_};

@@ -1,7 +1,7 @@
 // The bytes of a block that are not used.
 use crate::place::TIMER;
-use lookups::byte_at;
 use rules::TIMERS;
+use tables::byte_at;
 ghost use mathlib.Core.Path.{_≡_};
 ghost use Rattle.layout.specs.Layout.{unusedZero};
 

@@ -7,8 +7,8 @@ use lib.Dec.{leb}
 use lib.ListN.{getD, length, replicate, length-replicate}
 use Rattle.rules.specs.declared.Timer.{Timer}
 use Rattle.rules.specs.Numbers.{taskRoom, regionRoom, queueRoom, storeSize}
-use Rattle.fronts.specs.declared.Front.{Front}
-use Rattle.fronts.specs.Fronts.{whole, frontOf}
+use Rattle.tables.specs.declared.fronts.Front.{Front}
+use Rattle.tables.specs.Fronts.{whole, frontOf}
 use Rattle.packing.specs.Bytes.{taken}
 use Rattle.packing.specs.Timers.{timersTaken}
 use Rattle.layout.specs.Layout.{priorityPlace, statePlace, arrivedPlace, listPlace, operatorPlace, holderPlace, entriesPlace, boundPlace, lengthPlace, elementPlace, criterionPlace, ticksPlace, timersPlace, blockSize, part, unpacked}

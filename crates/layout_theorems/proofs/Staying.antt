@@ -10,8 +10,8 @@ use lib.Seq.{drop-at, drop-drop, length-take-le}
 use borrow.Author.Tests.{leb-true}
 use Rattle.rules.specs.Numbers.{storeSize}
 use Rattle.rules.specs.Words.{every}
-use Rattle.fronts.specs.declared.Front.{Front}
-use Rattle.fronts.specs.Fronts.{whole}
+use Rattle.tables.specs.declared.fronts.Front.{Front}
+use Rattle.tables.specs.Fronts.{whole}
 use Rattle.packing.specs.Bytes.{spread, over, put}
 use Rattle.packing.proofs.RoundTrips.{isByte, numbers-length}
 use Rattle.layout.specs.Layout.{elementPlace, criterionPlace, blockSize, part, unpacked, packed}

@@ -6,8 +6,8 @@ use mathlib.Core.List.{List}
 use Rattle.rules.specs.declared.Table.{Table}
 use Rattle.rules.specs.Validity.{valid}
 use Rattle.theorems.proofs.Kept.{valid-same}
-use Rattle.fronts.specs.declared.FrontDone.{FrontDone}
-use Rattle.fronts.specs.Fronts.{whole, frontDone}
+use Rattle.tables.specs.declared.fronts.FrontDone.{FrontDone}
+use Rattle.tables.specs.Fronts.{whole, frontDone}
 use Rattle.told_calls.proofs.Cases.{in-parts}
 use Rattle.told_calls.proofs.Told.{told-is}
 use Rattle.bench_line.specs.declared.Heard.{Heard}

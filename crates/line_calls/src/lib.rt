@@ -1,12 +1,12 @@
 // What a line behind the first does to a table whose store is lent.
 use bench_line::Heard;
 use bench_line::malformed_answer;
-use fronts::Front;
-use fronts::FrontDone;
+use tables::Front;
+use tables::FrontDone;
 use told_calls::call_told;
 ghost use mathlib.Core.Path.{_≡_};
 ghost use lib.ListN.{length};
-ghost use Rattle.fronts.specs.Fronts.{whole, frontDone};
+ghost use Rattle.tables.specs.Fronts.{whole, frontDone};
 ghost use Rattle.line_calls.specs.Told.{heardTold};
 
 // The line is told by what it asks for, and `ok` says whether the table is valid: a piece of the input looks at the table once, since no

@@ -1,8 +1,8 @@
 // How a session begins: where it stands before the first line, and what a refused first line leaves.
-use configure::fresh;
 use rules::Answer;
 use rules::Done;
 use rules::Table;
+use tables::fresh;
 ghost use mathlib.Core.Path.{_≡_};
 ghost use Rattle.rules.specs.Fresh.{zeroTable};
 ghost use Rattle.opening.specs.Start.{start, firstRefused};

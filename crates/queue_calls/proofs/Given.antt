@@ -7,9 +7,9 @@ use Rattle.rules.specs.declared.Call.{Call}
 use Rattle.rules.specs.Numbers.{queueRoom, storeSize}
 use Rattle.rules.specs.Queues.{firstPlace}
 use Rattle.rules.specs.Tables.{withStore}
-use Rattle.fronts.specs.declared.Front.{Front}
-use Rattle.fronts.specs.declared.FrontDone.{FrontDone}
-use Rattle.fronts.specs.Fronts.{whole, storeless, frontDone, told}
+use Rattle.tables.specs.declared.fronts.Front.{Front}
+use Rattle.tables.specs.declared.fronts.FrontDone.{FrontDone}
+use Rattle.tables.specs.Fronts.{whole, storeless, frontDone, told}
 use Rattle.closing.specs.Gaps.{closedIn}
 use Rattle.retrieving.specs.Places.{placeIn}
 use Rattle.queue_calls.specs.Made.{endOf, sendMade, retrieveMade}

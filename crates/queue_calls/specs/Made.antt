@@ -9,7 +9,7 @@ use Rattle.rules.specs.Queues.{firstPlace}
 use Rattle.rules.specs.Tables.{lengthOf, withStore}
 use Rattle.closing.specs.Gaps.{closedIn}
 use Rattle.retrieving.specs.Places.{placeIn}
-use Rattle.fronts.specs.Fronts.{told}
+use Rattle.tables.specs.Fronts.{told}
 
 -- the place behind the last element of queue q
 abbrev pub endOf : Table → ℕ → ℕ

@@ -1,14 +1,14 @@
 // RETRIEVE: the element is found, given out, and the gap closed.
 use closing::close_criteria;
 use closing::close_elements;
-use fronts::Front;
-use fronts::FrontDone;
 use retrieving::place_of;
 use rules::Answer;
 use rules::Call;
+use tables::Front;
+use tables::FrontDone;
 ghost use mathlib.Core.Path.{_≡_};
 ghost use lib.ListN.{length};
-ghost use Rattle.fronts.specs.Fronts.{whole, frontDone};
+ghost use Rattle.tables.specs.Fronts.{whole, frontDone};
 ghost use Rattle.queue_calls.specs.Made.{retrieveMade};
 
 pub fn retrieve_call(

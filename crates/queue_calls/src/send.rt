@@ -1,11 +1,11 @@
 // SEND: the element goes behind the last.
-use fronts::Front;
-use fronts::FrontDone;
 use rules::Answer;
 use rules::Call;
+use tables::Front;
+use tables::FrontDone;
 ghost use mathlib.Core.Path.{_≡_};
 ghost use lib.ListN.{length};
-ghost use Rattle.fronts.specs.Fronts.{whole, frontDone};
+ghost use Rattle.tables.specs.Fronts.{whole, frontDone};
 ghost use Rattle.queue_calls.specs.Made.{sendMade};
 
 pub fn send_call(

@@ -1,10 +1,10 @@
 // The two queries about a queue: each answers and changes nothing.
-use lookups::byte_at;
 use replies::object_status;
 use replies::one_if;
 use replies::reply_of;
 use rules::Answer;
 use rules::Table;
+use tables::byte_at;
 use whole_table::is_valid;
 ghost use mathlib.Core.Path.{_≡_};
 ghost use Rattle.rules.specs.Queries.{emptyQuery, fullQuery};

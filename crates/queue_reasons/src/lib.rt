@@ -1,8 +1,8 @@
 // Why SEND and RETRIEVE are refused, once their numbers stand for something: the first reason that applies.
-use lookups::byte_at;
 use reasons::pick;
 use retrieving::place_of;
 use rules::Call;
+use tables::byte_at;
 ghost use mathlib.Core.Path.{_≡_};
 ghost use mathlib.Core.Bool.{_&&_};
 ghost use lib.Dec.{eqb, leb};

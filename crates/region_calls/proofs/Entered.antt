@@ -9,7 +9,7 @@ use Rattle.rules.specs.Regions.{held}
 use Rattle.rules.specs.Tables.{regionOf, withRegion, withElected, electionOf}
 use Rattle.rules.proofs.Election.{electedBy, election-by}
 use Rattle.region_effects.specs.Effects.{regionAfter}
-use Rattle.fronts.specs.Fronts.{told}
+use Rattle.tables.specs.Fronts.{told}
 use Rattle.region_calls.specs.Made.{regionMadeAt}
 
 pub region-made : (t : Table) (c : Call) (at mine mine′ : ℕ) → mine ≡ mine′ → (after : Region) (v who : ℕ)

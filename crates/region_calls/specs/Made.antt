@@ -6,7 +6,7 @@ use Rattle.rules.specs.declared.Done.{Done}
 use Rattle.rules.specs.Numbers.{regionRoom}
 use Rattle.rules.specs.Tables.{regionOf, withRegion, settled}
 use Rattle.region_effects.specs.Effects.{regionAfter}
-use Rattle.fronts.specs.Fronts.{told}
+use Rattle.tables.specs.Fronts.{told}
 
 -- region r entered or left by the task whose entry is `mine`
 abbrev pub regionMadeAt : ℕ → ℕ → Table → Call → Done

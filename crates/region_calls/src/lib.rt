@@ -1,14 +1,14 @@
 // ENTER and EXIT, once accepted: one region changes, and the elected task is found afresh.
 use election::elected_by;
-use fronts::Front;
-use fronts::FrontDone;
 use region_effects::region_after;
 use regions::held_by;
 use rules::Answer;
 use rules::Call;
 use rules::Region;
+use tables::Front;
+use tables::FrontDone;
 ghost use mathlib.Core.Path.{_≡_};
-ghost use Rattle.fronts.specs.Fronts.{frontDone, storeless};
+ghost use Rattle.tables.specs.Fronts.{frontDone, storeless};
 ghost use Rattle.region_calls.specs.Made.{regionMade};
 
 pub fn region_call(mut t: Front, k: Call) -> FrontDone

@@ -13,9 +13,9 @@ use Rattle.rules.specs.Validity.{valid}
 use Rattle.rules.specs.Step.{step}
 use Rattle.theorems.proofs.Kept.{valid-same, store-kept}
 use Rattle.packing.specs.Answers.{answerNumber}
-use Rattle.fronts.specs.declared.Front.{Front}
-use Rattle.fronts.specs.declared.FrontDone.{FrontDone}
-use Rattle.fronts.specs.Fronts.{whole, frontOf, frontDone}
+use Rattle.tables.specs.declared.fronts.Front.{Front}
+use Rattle.tables.specs.declared.fronts.FrontDone.{FrontDone}
+use Rattle.tables.specs.Fronts.{whole, frontOf, frontDone}
 use Rattle.replay.specs.Log.{callAt, replayed, laps, logged}
 
 -- what stands after some calls: the table, the answers, and what is known of the table

@@ -1,14 +1,14 @@
 // The calls of a log, one after the other, on a table whose store is lent.
 use front_validity::front_valid;
-use fronts::Front;
 use packing::answer_number;
 use rules::Call;
+use tables::Front;
 use told_calls::call_told;
 ghost use mathlib.Core.Path.{_≡_};
 ghost use Prim.Native.Nat.{_+_, _*_, _≤_, _<_, min};
 ghost use lib.ListN.{length};
 ghost use Rattle.rules.specs.Validity.{valid};
-ghost use Rattle.fronts.specs.Fronts.{whole, frontOf};
+ghost use Rattle.tables.specs.Fronts.{whole, frontOf};
 ghost use Rattle.replay.specs.Log.{callAt, replayed, laps, logged};
 
 // After a log: the front, and how many calls were made.

@@ -1,11 +1,11 @@
 // The table written to a block: the whole of it, or all but the store.
 use front_writing::put_head;
-use fronts::Front;
 use layout::CRITERION;
 use layout::ELEMENT;
 use layout::TICKS;
 use layout::TIMER;
 use rules::Timer;
+use tables::Front;
 use word_writing::put_timers;
 use word_writing::put_words;
 use writing::put_bytes;

@@ -17,7 +17,7 @@ use Rattle.rules.specs.Tables.{taskOf, withTask, withTimers, withElected, elect
 use Rattle.rules.proofs.Election.{electedBy, election-by}
 use Rattle.task_effects.specs.Effects.{taskAfter}
 use Rattle.timer_effects.specs.Effects.{timersLeft}
-use Rattle.fronts.specs.Fronts.{told}
+use Rattle.tables.specs.Fronts.{told}
 use Rattle.task_calls.specs.Made.{taskMadeAt}
 
 module _ (t : Table) (c : Call) (i : ℕ) (after : Task) (m : Bool) (status : ℕ)

@@ -11,7 +11,7 @@ use Rattle.rules.specs.Events.{met}
 use Rattle.rules.specs.Tables.{taskOf, withTask, withTimers, settled}
 use Rattle.task_effects.specs.Effects.{target, taskAfter}
 use Rattle.timer_effects.specs.Effects.{timersLeft}
-use Rattle.fronts.specs.Fronts.{told}
+use Rattle.tables.specs.Fronts.{told}
 
 -- a WAIT whose condition isn't met
 abbrev pub suspended : Call → Task → Bool

@@ -1,18 +1,18 @@
 // START, STOP, END, SIGNAL, WAIT and CLEAR, once accepted: one task changes.
 use conditions::met_by;
 use election::elected_by;
-use fronts::Front;
-use fronts::FrontDone;
 use reasons::pick;
 use regions::held_by;
 use rules::Answer;
 use rules::Call;
 use rules::Task;
+use tables::Front;
+use tables::FrontDone;
 use task_effects::target_of;
 use task_effects::task_after;
 use timer_effects::timers_left;
 ghost use mathlib.Core.Path.{_≡_};
-ghost use Rattle.fronts.specs.Fronts.{frontDone, storeless};
+ghost use Rattle.tables.specs.Fronts.{frontDone, storeless};
 ghost use Rattle.task_calls.specs.Made.{taskMade};
 
 // Nobody is elected afresh where the task keeps its state. A task that STOP or END names isn't stopped yet, so that its timers need a look

@@ -1,9 +1,9 @@
 // Why a call about tasks or regions is refused, once its numbers stand for something: the first reason that applies.
 use call_numbers::leaves_of;
-use lookups::byte_at;
 use reasons::pick;
 use regions::held_by;
 use rules::Call;
+use tables::byte_at;
 ghost use mathlib.Core.Path.{_≡_};
 ghost use mathlib.Core.Bool.{not, _&&_};
 ghost use lib.Dec.{eqb};

@@ -10,7 +10,7 @@ use Rattle.rules.specs.Tables.{withTimers, withElected, electionOf}
 use Rattle.rules.proofs.Election.{electedBy, election-by}
 use Rattle.ringing.specs.declared.Rows.{Rows}
 use Rattle.ringing.specs.Signals.{rungRows, rowsOf, withRows}
-use Rattle.fronts.specs.Fronts.{told}
+use Rattle.tables.specs.Fronts.{told}
 use Rattle.timer_calls.specs.Made.{tickMade}
 
 pub tick-made : (t : Table) (now v who : ℕ) (rows : Rows) (left : List Timer)

@@ -10,7 +10,7 @@ use Rattle.rules.specs.Timers.{later, rung}
 use Rattle.rules.specs.Tables.{timerOf, withTimers, settled}
 use Rattle.ringing.specs.Signals.{rungRows, rowsOf, withRows}
 use Rattle.timer_effects.specs.Effects.{timerAfter}
-use Rattle.fronts.specs.Fronts.{told}
+use Rattle.tables.specs.Fronts.{told}
 
 abbrev pub timerMadeAt : ℕ → Table → Call → Done
 timerMadeAt i t c = told (withTimers (t .ticks) (set (t .timers) i (timerAfter c (t .ticks) (timerOf t i))) t) 0 0 0

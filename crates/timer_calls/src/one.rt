@@ -1,11 +1,11 @@
 // ARM and DISARM. Neither tasks nor holders change, so that nobody is elected afresh.
-use fronts::Front;
-use fronts::FrontDone;
 use rules::Answer;
 use rules::Call;
+use tables::Front;
+use tables::FrontDone;
 use timer_effects::timer_after;
 ghost use mathlib.Core.Path.{_≡_};
-ghost use Rattle.fronts.specs.Fronts.{frontDone, storeless};
+ghost use Rattle.tables.specs.Fronts.{frontDone, storeless};
 ghost use Rattle.timer_calls.specs.Made.{timerMade};
 
 pub fn timer_call(mut t: Front, k: Call) -> FrontDone

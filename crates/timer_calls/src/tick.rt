@@ -1,15 +1,15 @@
 // TICK: all due timers signal, and then one election.
 use clock::later_by;
 use election::elected_by;
-use fronts::Front;
-use fronts::FrontDone;
 use regions::held_by;
 use ringing::Rows;
 use ringing::rung_all;
 use ringing::rung_rows;
 use rules::Answer;
+use tables::Front;
+use tables::FrontDone;
 ghost use mathlib.Core.Path.{_≡_};
-ghost use Rattle.fronts.specs.Fronts.{frontDone, storeless};
+ghost use Rattle.tables.specs.Fronts.{frontDone, storeless};
 ghost use Rattle.timer_calls.specs.Made.{tickMade};
 
 pub fn tick_call(mut t: Front) -> FrontDone

@@ -11,9 +11,9 @@ use Rattle.rules.specs.declared.Table.{Table}
 use Rattle.rules.specs.declared.Call.{Call}
 use Rattle.rules.specs.declared.Done.{Done}
 use Rattle.rules.specs.Numbers.{taskRoom, nobody, ENTER, SEND, RETRIEVE, TICK}
-use Rattle.fronts.specs.declared.Front.{Front}
-use Rattle.fronts.specs.declared.FrontDone.{FrontDone}
-use Rattle.fronts.specs.Fronts.{whole, frontDone, storeless}
+use Rattle.tables.specs.declared.fronts.Front.{Front}
+use Rattle.tables.specs.declared.fronts.FrontDone.{FrontDone}
+use Rattle.tables.specs.Fronts.{whole, frontDone, storeless}
 use Rattle.task_effects.specs.Effects.{target}
 use Rattle.task_calls.specs.Made.{keepsState, stateKept, stateChanged, taskMadeAt, taskMade}
 use Rattle.region_calls.specs.Made.{regionMade}

@@ -29,7 +29,7 @@ use Rattle.retrieving.proofs.Places.{place-is, none-is, given-is, taken-is}
 use Rattle.ringing.proofs.Signals.{ticked-is}
 use Rattle.task_effects.specs.Effects.{target, taskAfter}
 use Rattle.refusals.proofs.Refused.{room, send-there, retrieve-there}
-use Rattle.fronts.specs.Fronts.{told}
+use Rattle.tables.specs.Fronts.{told}
 use Rattle.task_calls.specs.Made.{suspended, keepsState, stateKept, stateChanged, taskMadeAt, taskMade}
 use Rattle.region_calls.specs.Made.{regionMade}
 use Rattle.queue_calls.specs.Made.{endOf, sendMade, retrieveMade}

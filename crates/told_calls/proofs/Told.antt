@@ -15,8 +15,8 @@ use Rattle.rules.specs.Validity.{valid}
 use Rattle.rules.specs.Refusals.{refusal}
 use Rattle.rules.specs.Step.{step}
 use Rattle.refusals.proofs.Refused.{refusal-by}
-use Rattle.fronts.specs.declared.FrontDone.{FrontDone}
-use Rattle.fronts.specs.Fronts.{frontDone}
+use Rattle.tables.specs.declared.fronts.FrontDone.{FrontDone}
+use Rattle.tables.specs.Fronts.{frontDone}
 use Rattle.told_calls.specs.Told.{refusalTold, stepTold}
 use Rattle.told_calls.proofs.Done.{task-step, region-step, send-step, retrieve-step, timer-step, tick-step}
 use Rattle.told_calls.proofs.Cases.{in-parts, task-told, region-told, send-told, retrieve-told, timer-told, tick-told}

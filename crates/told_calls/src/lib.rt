@@ -1,6 +1,4 @@
 // One call on a table whose store is lent, told whether the table is valid: refused with the first reason that applies, or done by its kind.
-use fronts::Front;
-use fronts::FrontDone;
 use queue_calls::retrieve_call;
 use queue_calls::send_call;
 use reasons::reported_by;
@@ -8,12 +6,14 @@ use refusals::refusal_of;
 use region_calls::region_call;
 use rules::Answer;
 use rules::Call;
+use tables::Front;
+use tables::FrontDone;
 use task_calls::task_call;
 use timer_calls::tick_call;
 use timer_calls::timer_call;
 ghost use mathlib.Core.Path.{_≡_};
 ghost use lib.ListN.{length};
-ghost use Rattle.fronts.specs.Fronts.{whole, frontDone};
+ghost use Rattle.tables.specs.Fronts.{whole, frontDone};
 ghost use Rattle.told_calls.specs.Told.{stepTold};
 
 // `ok` says whether the table is valid: whoever makes many calls on one table need not look at it each time, since a call leaves a valid

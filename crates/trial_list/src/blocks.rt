@@ -2,13 +2,13 @@
 // where their blocks are, and a block with one number changed is a table with one number changed.
 use check::same;
 use front_reading::front_in;
-use fronts::front_of;
-use fronts::table_of;
 use layout::SIZE;
 use rules::STORE;
 use rules::Table;
 use store_reading::store_in;
 use table_writing::pack_whole;
+use tables::front_of;
+use tables::table_of;
 
 pub(crate) type Block = [u8; SIZE];
 

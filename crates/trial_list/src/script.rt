@@ -5,7 +5,7 @@ use super::say;
 use super::trial::trial;
 use bytes::scan::find;
 use layout::SIZE;
-use lookups::byte_at;
+use tables::byte_at;
 ghost use mathlib.Core.Path.{_≡_};
 ghost use lib.ListN.{length};
 

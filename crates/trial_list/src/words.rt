@@ -2,8 +2,8 @@
 use super::say;
 use bytes::scan::find;
 use check::same;
-use lookups::byte_at;
 use std::num::wrapping_add_u32;
+use tables::byte_at;
 
 // What no name stands for.
 const NOTHING: u32 = 4294967295;

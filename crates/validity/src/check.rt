@@ -7,7 +7,7 @@ use holders::joined_by;
 use holders::regions_right;
 use queues::queues_right;
 use rules::Timer;
-use table_counts::counts_right;
+use tables::counts_right;
 use tasks::tasks_right;
 use timers::timers_right;
 ghost use mathlib.Core.Path.{_≡_};

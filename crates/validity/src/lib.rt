@@ -2,4 +2,4 @@
 mod check;
 
 pub use check::valid_of;
-pub use table_counts::counts_right;
+pub use tables::counts_right;

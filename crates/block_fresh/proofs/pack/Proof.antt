@@ -2,8 +2,8 @@
 use borrow.Author.Needs.{needs}
 use mathlib.Core.Path.{_≡_, refl, sym, ap, subst, _∙_}
 use lib.ListN.{length}
-use Rattle.fronts.specs.declared.Front.{Front}
-use Rattle.fronts.specs.Fronts.{whole, frontOf}
+use Rattle.tables.specs.declared.fronts.Front.{Front}
+use Rattle.tables.specs.Fronts.{whole, frontOf}
 use Rattle.layout.specs.Layout.{blockSize, packed}
 use Rattle.layout.proofs.Sizes.{Sized, length-mapped}
 use Rattle.layout_theorems.proofs.Writing.{whole-put}

@@ -5,7 +5,7 @@ use Prim.Native.Nat.{_-_, _/_}
 use mathlib.Core.Path.{_≡_, ap, _∙_}
 use mathlib.Core.Bool.{true}
 use lib.ListN.{length}
-use Rattle.fronts.specs.Fronts.{whole}
+use Rattle.tables.specs.Fronts.{whole}
 use Rattle.fed.specs.Feed.{fedAt}
 use Rattle.feeding_laws.proofs.Feeding.{GoingFrom, going-from, whole-again, going-lent, still-long, later-told, later-written, ahead-no-room, asked-none}
 use Rattle.rules.specs.Validity.{valid}

@@ -3,7 +3,7 @@ use borrow.Author.Needs.{needs}
 use Prim.Native.Nat.{_≤_, _-_, _/_}
 use mathlib.Core.Path.{_≡_}
 use lib.ListN.{length}
-use Rattle.configure.proofs.Fills.{filled}
+use Rattle.tables.proofs.Fills.{filled}
 use Rattle.first_lines.specs.First.{numbers}
 use Rattle.first_lines.proofs.Configuration.{numbers-again, numbers-end}
 use Rattle.first_lines.proofs.numbers_of.Statement.{statement}

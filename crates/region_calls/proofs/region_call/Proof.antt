@@ -1,7 +1,7 @@
 -- One region is written, and the election is that of the table after it.
 use borrow.Author.Needs.{needs}
 use mathlib.Core.Path.{ap}
-use Rattle.fronts.specs.Fronts.{frontDone, storeless}
+use Rattle.tables.specs.Fronts.{frontDone, storeless}
 use Rattle.region_calls.proofs.Entered.{region-made}
 use Rattle.region_calls.proofs.region_call.Statement.{statement}
 use Rattle.region_calls.proofs.region_call.Tie as tie

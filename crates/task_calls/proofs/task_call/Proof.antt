@@ -2,7 +2,7 @@
 use borrow.Author.Needs.{needs}
 use mathlib.Core.Path.{_≡_, ap}
 use lib.ListN.{length, length-set}
-use Rattle.fronts.specs.Fronts.{frontDone, storeless}
+use Rattle.tables.specs.Fronts.{frontDone, storeless}
 use Rattle.task_calls.proofs.Changed.{state-kept, state-changed}
 use Rattle.task_calls.proofs.task_call.Statement.{statement}
 use Rattle.task_calls.proofs.task_call.Tie as tie

@@ -3,7 +3,7 @@ use borrow.Author.Needs.{needs}
 use native.Mathlib.Omega.{arith}
 use mathlib.Core.Path.{refl}
 use Rattle.rules.specs.declared.Table.{Table}
-use Rattle.fronts.specs.Fronts.{whole}
+use Rattle.tables.specs.Fronts.{whole}
 use Rattle.validity.specs.Lent.{Lengths}
 use Rattle.told_calls.proofs.Cases.{in-parts, task-alone, refused-told, task-told, region-told, send-told, retrieve-told, timer-told, tick-told}
 use Rattle.told_calls.proofs.call_told.Statement.{statement}

@@ -2,7 +2,7 @@
 use borrow.Author.Needs.{needs}
 use mathlib.Core.Path.{_≡_, sym, _∙_}
 use Rattle.rules.specs.Validity.{valid}
-use Rattle.fronts.specs.Fronts.{whole}
+use Rattle.tables.specs.Fronts.{whole}
 use Rattle.replay.proofs.log.known_or_seen.Statement.{statement}
 use Rattle.replay.proofs.log.known_or_seen.Tie as tie
 

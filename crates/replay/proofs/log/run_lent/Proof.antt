@@ -4,7 +4,7 @@ use native.Mathlib.Omega.{arith}
 use Prim.Native.Nat.{_-_, _*_, _≤_}
 use mathlib.Core.Path.{_≡_, refl, _∙_}
 use lib.ListN.{length, length-set}
-use Rattle.fronts.specs.Fronts.{whole}
+use Rattle.tables.specs.Fronts.{whole}
 use Rattle.told_calls.proofs.Told.{told-parts}
 use Rattle.replay.proofs.Runs.{Ran, ran-none, ran-again, ran-all}
 use Rattle.replay.proofs.log.run_lent.Statement.{statement}

@@ -2,7 +2,7 @@
 use borrow.Author.Needs.{needs}
 use mathlib.Core.Path.{_≡_, ap}
 use lib.ListN.{length}
-use Rattle.fronts.specs.Fronts.{frontDone, storeless}
+use Rattle.tables.specs.Fronts.{frontDone, storeless}
 use Rattle.timer_calls.proofs.Ticked.{tick-made}
 use Rattle.timer_calls.proofs.tick.tick_call.Statement.{statement}
 use Rattle.timer_calls.proofs.tick.tick_call.Tie as tie

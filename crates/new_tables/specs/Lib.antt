@@ -1,2 +1,0 @@
--- The definitions that this crate's inner contracts cite beside those of the rules.
-pub mod Fresh

@@ -1,0 +1,71 @@
+// A table taken apart into its front and its store, and put together again.
+use crate::fronts::Front;
+use rules::Table;
+ghost use mathlib.Core.Path.{_≡_};
+ghost use Rattle.tables.specs.Fronts.{whole, frontOf};
+
+pub fn front_of(t: Table) -> Front
+    ensures { λ r. ⌜ r ≡ frontOf t ⌝ }
+{
+    let priority = t.priority;
+    let state = t.state;
+    let arrived = t.arrived;
+    let list = t.list;
+    let operator = t.operator;
+    let holder = t.holder;
+    let entries = t.entries;
+    let bound = t.bound;
+    let lengths = t.length;
+    let timers = t.timers;
+    Front {
+        tasks: t.tasks,
+        regions: t.regions,
+        queues: t.queues,
+        elected: t.elected,
+        priority: priority,
+        state: state,
+        arrived: arrived,
+        list: list,
+        operator: operator,
+        holder: holder,
+        entries: entries,
+        bound: bound,
+        length: lengths,
+        ticks: t.ticks,
+        timers: timers,
+    }
+}
+
+pub fn table_of(f: Front, element: [u32; 512], criterion: [u8; 512]) -> Table
+    ensures { λ r. ⌜ r ≡ whole f element criterion ⌝ }
+{
+    let priority = f.priority;
+    let state = f.state;
+    let arrived = f.arrived;
+    let list = f.list;
+    let operator = f.operator;
+    let holder = f.holder;
+    let entries = f.entries;
+    let bound = f.bound;
+    let lengths = f.length;
+    let timers = f.timers;
+    Table {
+        tasks: f.tasks,
+        regions: f.regions,
+        queues: f.queues,
+        elected: f.elected,
+        priority: priority,
+        state: state,
+        arrived: arrived,
+        list: list,
+        operator: operator,
+        holder: holder,
+        entries: entries,
+        bound: bound,
+        length: lengths,
+        element: element,
+        criterion: criterion,
+        ticks: f.ticks,
+        timers: timers,
+    }
+}
