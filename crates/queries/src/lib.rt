@@ -1,5 +1,4 @@
 // The three queries about tasks, beside those about queues: each answers and changes nothing.
-use conditions::met_by;
 pub use queue_queries::empty;
 pub use queue_queries::full;
 use replies::arrived_status;
@@ -9,6 +8,7 @@ use replies::reply_of;
 use rules::Answer;
 use rules::Table;
 use tables::byte_at;
+use tasks::met_by;
 use whole_table::is_valid;
 ghost use mathlib.Core.Path.{_≡_};
 ghost use lib.ListN.{length, getD};

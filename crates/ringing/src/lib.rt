@@ -1,11 +1,11 @@
 // A tick: the timers that are due signal their events to the tasks that own them, and are idle again.
 use clock::ahead_of;
-use conditions::signalled_by;
 use one_timer::idle_if;
 use rules::TASKS;
 use rules::TIMERS;
 use rules::Task;
 use rules::Timer;
+use tasks::signalled_by;
 ghost use mathlib.Core.Path.{_≡_};
 ghost use mathlib.Core.List.{map};
 ghost use Prim.Native.Nat.{_<_};

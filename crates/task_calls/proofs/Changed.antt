@@ -15,7 +15,7 @@ use Rattle.rules.specs.Events.{met}
 use Rattle.rules.specs.Regions.{held}
 use Rattle.rules.specs.Tables.{taskOf, withTask, withTimers, withElected, electionOf}
 use Rattle.rules.proofs.Election.{electedBy, election-by}
-use Rattle.task_effects.specs.Effects.{taskAfter}
+use Rattle.tasks.specs.Effects.{taskAfter}
 use Rattle.timer_effects.specs.Effects.{timersLeft}
 use Rattle.tables.specs.Fronts.{told}
 use Rattle.task_calls.specs.Made.{taskMadeAt}

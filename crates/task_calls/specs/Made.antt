@@ -9,7 +9,7 @@ use Rattle.rules.specs.declared.Done.{Done}
 use Rattle.rules.specs.Numbers.{taskRoom, WAIT}
 use Rattle.rules.specs.Events.{met}
 use Rattle.rules.specs.Tables.{taskOf, withTask, withTimers, settled}
-use Rattle.task_effects.specs.Effects.{target, taskAfter}
+use Rattle.tasks.specs.Effects.{target, taskAfter}
 use Rattle.timer_effects.specs.Effects.{timersLeft}
 use Rattle.tables.specs.Fronts.{told}
 

@@ -1,5 +1,4 @@
 // START, STOP, END, SIGNAL, WAIT and CLEAR, once accepted: one task changes.
-use conditions::met_by;
 use election::elected_by;
 use reasons::pick;
 use regions::held_by;
@@ -8,8 +7,9 @@ use rules::Call;
 use rules::Task;
 use tables::Front;
 use tables::FrontDone;
-use task_effects::target_of;
-use task_effects::task_after;
+use tasks::met_by;
+use tasks::target_of;
+use tasks::task_after;
 use timer_effects::timers_left;
 ghost use mathlib.Core.Path.{_≡_};
 ghost use Rattle.tables.specs.Fronts.{frontDone, storeless};

@@ -30,7 +30,7 @@ use Rattle.rules.proofs.Refusals.{Accepted}
 use Rattle.rules.proofs.Entries.{entries-most}
 use Rattle.rules.proofs.Lists.{altered-set}
 use Rattle.rules.proofs.Effects.{upto}
-use Rattle.task_effects.specs.Effects.{target, taskAfter}
+use Rattle.tasks.specs.Effects.{target, taskAfter}
 use Rattle.region_effects.specs.Effects.{regionAfter}
 use Rattle.timer_effects.specs.Effects.{timerAfter, timersLeft}
 

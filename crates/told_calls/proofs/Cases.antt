@@ -14,7 +14,7 @@ use Rattle.rules.specs.Numbers.{taskRoom, nobody, ENTER, SEND, RETRIEVE, TICK}
 use Rattle.tables.specs.declared.fronts.Front.{Front}
 use Rattle.tables.specs.declared.fronts.FrontDone.{FrontDone}
 use Rattle.tables.specs.Fronts.{whole, frontDone, storeless}
-use Rattle.task_effects.specs.Effects.{target}
+use Rattle.tasks.specs.Effects.{target}
 use Rattle.task_calls.specs.Made.{keepsState, stateKept, stateChanged, taskMadeAt, taskMade}
 use Rattle.region_calls.specs.Made.{regionMade}
 use Rattle.queue_calls.specs.Made.{sendMade, retrieveMade}

@@ -27,7 +27,7 @@ use Rattle.closing.specs.Gaps.{closedIn}
 use Rattle.retrieving.specs.Places.{placeIn}
 use Rattle.retrieving.proofs.Places.{place-is, none-is, given-is, taken-is}
 use Rattle.ringing.proofs.Signals.{ticked-is}
-use Rattle.task_effects.specs.Effects.{target, taskAfter}
+use Rattle.tasks.specs.Effects.{target, taskAfter}
 use Rattle.refusals.proofs.Refused.{room, send-there, retrieve-there}
 use Rattle.tables.specs.Fronts.{told}
 use Rattle.task_calls.specs.Made.{suspended, keepsState, stateKept, stateChanged, taskMadeAt, taskMade}
