@@ -8,7 +8,7 @@ use Rattle.rules.specs.declared.Call.{Call}
 use Rattle.rules.specs.Regions.{held}
 use Rattle.rules.specs.Tables.{regionOf, withRegion, withElected, electionOf}
 use Rattle.rules.proofs.Election.{electedBy, election-by}
-use Rattle.region_effects.specs.Effects.{regionAfter}
+use Rattle.regions.specs.Effects.{regionAfter}
 use Rattle.tables.specs.Fronts.{told}
 use Rattle.region_calls.specs.Made.{regionMadeAt}
 

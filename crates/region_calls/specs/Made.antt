@@ -5,7 +5,7 @@ use Rattle.rules.specs.declared.Call.{Call}
 use Rattle.rules.specs.declared.Done.{Done}
 use Rattle.rules.specs.Numbers.{regionRoom}
 use Rattle.rules.specs.Tables.{regionOf, withRegion, settled}
-use Rattle.region_effects.specs.Effects.{regionAfter}
+use Rattle.regions.specs.Effects.{regionAfter}
 use Rattle.tables.specs.Fronts.{told}
 
 -- region r entered or left by the task whose entry is `mine`

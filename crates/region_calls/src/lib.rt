@@ -1,7 +1,7 @@
 // ENTER and EXIT, once accepted: one region changes, and the elected task is found afresh.
 use election::elected_by;
-use region_effects::region_after;
 use regions::held_by;
+use regions::region_after;
 use rules::Answer;
 use rules::Call;
 use rules::Region;

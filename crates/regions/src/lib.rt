@@ -1,17 +1,12 @@
-// Who holds the occupied regions.
-ghost use mathlib.Core.Path.{_≡_};
-ghost use lib.ListN.{length};
-ghost use Rattle.rules.specs.Regions.{held};
+// regions, holders, entry_counts, region_effects.
+mod entry_counts;
+mod holders;
+mod region_effects;
+mod regions;
 
-// The first occupied region's entry, 0 where all are free.
-pub fn held_by(holder: &[u8; 16]) -> u8
-    requires { ⌜ length (now holder) ≡ 16 ⌝ }
-    ensures { λ r. ⌜ r ≡ held (now (holder .entry)) ⌝ }
-{
-    for i in 0..16 {
-        if holder[i] != 0 {
-            return holder[i];
-        }
-    }
-    0
-}
+pub use entry_counts::entries_right;
+pub use holders::holder_right;
+pub use holders::joined_by;
+pub use holders::regions_right;
+pub use region_effects::region_after;
+pub use regions::held_by;

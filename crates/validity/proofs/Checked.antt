@@ -15,8 +15,8 @@ use Rattle.rules.specs.Validity.{shaped, countsInRange, criteriaInRange, timers
 use Rattle.rules.proofs.Bools.{and-left, and-right, both, shown}
 use Rattle.rules.proofs.Election.{electedBy, election-by}
 use Rattle.rules.proofs.Validity.{tasksRight, regionsRight, entriesEverywhere, holderRight, queuesRight, parts-of, valid-is}
-use Rattle.holders.specs.Joined.{joined}
-use Rattle.holders.proofs.Joining.{joined-right, held-right}
+use Rattle.regions.specs.Joined.{joined}
+use Rattle.regions.proofs.Joining.{joined-right, held-right}
 use Rattle.validity.specs.Lent.{lent, Lengths}
 
 pub shaped-lent : (tasks regions queues elected : ℕ) (priority state arrived list operator holder entries bound lengths element criterion : List ℕ)

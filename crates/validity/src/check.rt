@@ -1,11 +1,11 @@
 // The validity check over a table whose arrays are lent: every rule of the list, by subject.
 use criteria_range::criteria_right;
 use election::elected_by;
-use entry_counts::entries_right;
-use holders::holder_right;
-use holders::joined_by;
-use holders::regions_right;
 use queues::queues_right;
+use regions::entries_right;
+use regions::holder_right;
+use regions::joined_by;
+use regions::regions_right;
 use rules::Timer;
 use tables::counts_right;
 use tasks::tasks_right;

@@ -1,2 +1,0 @@
--- The definition that this crate's contracts cite beside that of the rules.
-pub mod Effects

@@ -1,0 +1,52 @@
+// The check of the holder: whether all occupied regions agree on it, and whether it is a ready task.
+ghost use mathlib.Core.Path.{_≡_};
+ghost use lib.ListN.{length};
+ghost use Rattle.regions.specs.Joined.{joined};
+ghost use Rattle.rules.proofs.Validity.{regionFits, regionsRight, holderRight};
+
+// The entries' bits, joined. Where all occupied regions have the same entry it is this one, and where they have not, `regions_right` finds
+// that no entry is all of theirs: so the check needs no walk to the first occupied region.
+pub fn joined_by(holder: &[u8; 16]) -> u8
+    requires { ⌜ length (now holder) ≡ 16 ⌝ }
+    ensures { λ r. ⌜ r ≡ joined 0 (now (holder .entry)) ⌝ }
+{
+    let mut bits: u8 = 0;
+    for i in 0..16 {
+        bits = bits | holder[i];
+    }
+    bits
+}
+
+fn region_fits(regions: u8, v: u8, i: u8, h: u8) -> bool
+    ensures { λ r. ⌜ r ≡ regionFits regions v i h ⌝ }
+{
+    (h == 0) | ((i < regions) & (h == v))
+}
+
+// Every occupied region lies below the count and has the entry v.
+pub fn regions_right(regions: u8, v: u8, holder: &[u8; 16]) -> bool
+    requires { ⌜ length (now holder) ≡ 16 ⌝ }
+    ensures { λ r. ⌜ r ≡ regionsRight regions v (now (holder .entry)) ⌝ }
+{
+    let mut ok = true;
+    for i in 0..16 {
+        let fits = region_fits(regions, v, i as u8, holder[i]);
+        ok = ok & fits;
+    }
+    ok
+}
+
+// The holder behind the entry v, if there is one, is a task of the table and ready.
+pub fn holder_right(tasks: u8, state: &[u8; 32], v: u8) -> bool
+    requires { ⌜ length (now state) ≡ 32 ⌝ }
+    ensures { λ r. ⌜ r ≡ holderRight tasks (now (state .entry)) v ⌝ }
+{
+    if v == 0 {
+        return true;
+    }
+    if tasks < v {
+        return false;
+    }
+    let i = (v - 1) as usize;
+    if i < 32 { state[i] == 1 } else { false }
+}
