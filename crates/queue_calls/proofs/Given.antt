@@ -10,8 +10,8 @@ use Rattle.rules.specs.Tables.{withStore}
 use Rattle.tables.specs.declared.fronts.Front.{Front}
 use Rattle.tables.specs.declared.fronts.FrontDone.{FrontDone}
 use Rattle.tables.specs.Fronts.{whole, storeless, frontDone, told}
-use Rattle.closing.specs.Gaps.{closedIn}
-use Rattle.retrieving.specs.Places.{placeIn}
+use Rattle.queues.specs.Gaps.{closedIn}
+use Rattle.queues.specs.Places.{placeIn}
 use Rattle.queue_calls.specs.Made.{endOf, sendMade, retrieveMade}
 
 -- the front with the call's queue of length n, and this value and key given out

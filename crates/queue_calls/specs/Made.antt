@@ -7,8 +7,8 @@ use Rattle.rules.specs.declared.Done.{Done}
 use Rattle.rules.specs.Numbers.{queueRoom, storeSize}
 use Rattle.rules.specs.Queues.{firstPlace}
 use Rattle.rules.specs.Tables.{lengthOf, withStore}
-use Rattle.closing.specs.Gaps.{closedIn}
-use Rattle.retrieving.specs.Places.{placeIn}
+use Rattle.queues.specs.Gaps.{closedIn}
+use Rattle.queues.specs.Places.{placeIn}
 use Rattle.tables.specs.Fronts.{told}
 
 -- the place behind the last element of queue q

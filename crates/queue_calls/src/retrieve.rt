@@ -1,7 +1,7 @@
 // RETRIEVE: the element is found, given out, and the gap closed.
-use closing::close_criteria;
-use closing::close_elements;
-use retrieving::place_of;
+use queues::close_criteria;
+use queues::close_elements;
+use queues::place_of;
 use rules::Answer;
 use rules::Call;
 use tables::Front;

@@ -7,7 +7,7 @@ use lib.ListN.{getD}
 use Rattle.rules.specs.declared.Call.{Call}
 use Rattle.rules.specs.Numbers.{queueRoom, places, SEND, RETRIEVE}
 use Rattle.rules.specs.Words.{Reason, when}
-use Rattle.retrieving.specs.Places.{placeIn}
+use Rattle.queues.specs.Places.{placeIn}
 
 -- 18 by places of the store: the place found is the end of the queue
 unfoldable pub lacking : List ℕ → List ℕ → Call → Bool

@@ -1,6 +1,6 @@
 // Why SEND and RETRIEVE are refused, once their numbers stand for something: the first reason that applies.
+use queues::place_of;
 use reasons::pick;
-use retrieving::place_of;
 use rules::Call;
 use tables::byte_at;
 ghost use mathlib.Core.Path.{_≡_};

@@ -21,7 +21,7 @@ use Rattle.rules.proofs.Bools.{given, or-left}
 use Rattle.rules.proofs.Queues.{queue-length}
 use Rattle.rules.proofs.Validity.{Parts, parts-of, sound}
 use Rattle.rules.proofs.Refusals.{first-append}
-use Rattle.retrieving.proofs.Places.{none-is}
+use Rattle.queues.proofs.Places.{none-is}
 use Rattle.queue_reasons.specs.Flags.{lacking}
 use Rattle.refusals.specs.Late.{lateFlags, early, refusalBy}
 

@@ -23,9 +23,9 @@ use Rattle.rules.proofs.Bools.{or-right}
 use Rattle.rules.proofs.Queues.{Sound, queue-length, sent-stored}
 use Rattle.rules.proofs.Validity.{Parts, parts-of, sound, bound-below}
 use Rattle.rules.proofs.Refusals.{Accepted, accepted-facts}
-use Rattle.closing.specs.Gaps.{closedIn}
-use Rattle.retrieving.specs.Places.{placeIn}
-use Rattle.retrieving.proofs.Places.{place-is, none-is, given-is, taken-is}
+use Rattle.queues.specs.Gaps.{closedIn}
+use Rattle.queues.specs.Places.{placeIn}
+use Rattle.queues.proofs.Places.{place-is, none-is, given-is, taken-is}
 use Rattle.ringing.proofs.Signals.{ticked-is}
 use Rattle.tasks.specs.Effects.{target, taskAfter}
 use Rattle.refusals.proofs.Refused.{room, send-there, retrieve-there}

@@ -1,6 +1,6 @@
 // The validity check over a table whose arrays are lent: every rule of the list, by subject.
-use criteria_range::criteria_right;
 use election::elected_by;
+use queues::criteria_right;
 use queues::queues_right;
 use regions::entries_right;
 use regions::holder_right;
