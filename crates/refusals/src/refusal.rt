@@ -1,5 +1,4 @@
 // The refusals, in the order of the status table: the first that applies.
-use arming::others_at;
 use call_numbers::missing_of;
 use queue_reasons::queue_reason_of;
 use reasons::early_of;
@@ -7,6 +6,7 @@ use reasons::pick;
 use rules::Call;
 use rules::Timer;
 use task_reasons::task_reason_of;
+use timers::others_at;
 ghost use mathlib.Core.Path.{_≡_};
 ghost use lib.ListN.{length};
 ghost use Rattle.rules.specs.Words.{first};

@@ -16,7 +16,7 @@ use Rattle.rules.specs.Regions.{held}
 use Rattle.rules.specs.Tables.{taskOf, withTask, withTimers, withElected, electionOf}
 use Rattle.rules.proofs.Election.{electedBy, election-by}
 use Rattle.tasks.specs.Effects.{taskAfter}
-use Rattle.timer_effects.specs.Effects.{timersLeft}
+use Rattle.timers.specs.Effects.{timersLeft}
 use Rattle.tables.specs.Fronts.{told}
 use Rattle.task_calls.specs.Made.{taskMadeAt}
 

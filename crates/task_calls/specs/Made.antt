@@ -10,7 +10,7 @@ use Rattle.rules.specs.Numbers.{taskRoom, WAIT}
 use Rattle.rules.specs.Events.{met}
 use Rattle.rules.specs.Tables.{taskOf, withTask, withTimers, settled}
 use Rattle.tasks.specs.Effects.{target, taskAfter}
-use Rattle.timer_effects.specs.Effects.{timersLeft}
+use Rattle.timers.specs.Effects.{timersLeft}
 use Rattle.tables.specs.Fronts.{told}
 
 -- a WAIT whose condition isn't met

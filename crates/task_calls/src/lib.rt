@@ -10,7 +10,7 @@ use tables::FrontDone;
 use tasks::met_by;
 use tasks::target_of;
 use tasks::task_after;
-use timer_effects::timers_left;
+use timers::timers_left;
 ghost use mathlib.Core.Path.{_≡_};
 ghost use Rattle.tables.specs.Fronts.{frontDone, storeless};
 ghost use Rattle.task_calls.specs.Made.{taskMade};

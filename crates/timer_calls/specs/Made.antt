@@ -8,8 +8,8 @@ use Rattle.rules.specs.declared.Done.{Done}
 use Rattle.rules.specs.Numbers.{timerRoom}
 use Rattle.rules.specs.Timers.{later, rung}
 use Rattle.rules.specs.Tables.{timerOf, withTimers, settled}
-use Rattle.ringing.specs.Signals.{rungRows, rowsOf, withRows}
-use Rattle.timer_effects.specs.Effects.{timerAfter}
+use Rattle.timers.specs.Signals.{rungRows, rowsOf, withRows}
+use Rattle.timers.specs.Effects.{timerAfter}
 use Rattle.tables.specs.Fronts.{told}
 
 abbrev pub timerMadeAt : ℕ → Table → Call → Done

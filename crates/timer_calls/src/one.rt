@@ -3,7 +3,7 @@ use rules::Answer;
 use rules::Call;
 use tables::Front;
 use tables::FrontDone;
-use timer_effects::timer_after;
+use timers::timer_after;
 ghost use mathlib.Core.Path.{_≡_};
 ghost use Rattle.tables.specs.Fronts.{frontDone, storeless};
 ghost use Rattle.timer_calls.specs.Made.{timerMade};

@@ -1,13 +1,13 @@
 // TICK: all due timers signal, and then one election.
-use clock::later_by;
 use election::elected_by;
 use regions::held_by;
-use ringing::Rows;
-use ringing::rung_all;
-use ringing::rung_rows;
 use rules::Answer;
 use tables::Front;
 use tables::FrontDone;
+use timers::Rows;
+use timers::later_by;
+use timers::rung_all;
+use timers::rung_rows;
 ghost use mathlib.Core.Path.{_≡_};
 ghost use Rattle.tables.specs.Fronts.{frontDone, storeless};
 ghost use Rattle.timer_calls.specs.Made.{tickMade};

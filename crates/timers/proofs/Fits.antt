@@ -13,7 +13,7 @@ use Rattle.rules.specs.Numbers.{taskRoom}
 use Rattle.rules.specs.Words.{all}
 use Rattle.rules.specs.Validity.{timerRight}
 use Rattle.rules.proofs.Bools.{same-test}
-use Rattle.timer_rule.specs.Fits.{timerFits}
+use Rattle.timers.specs.Fits.{timerFits}
 
 -- the state read at the owner's number modulo 32 serves, since an owner past the columns never fits
 pub fits-right : (tasks owners ticks : ℕ) (states : List ℕ) (r : Timer) → owners ≡ min tasks taskRoom → length states ≡ taskRoom

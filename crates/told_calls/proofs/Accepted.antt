@@ -32,7 +32,7 @@ use Rattle.rules.proofs.Lists.{altered-set}
 use Rattle.rules.proofs.Effects.{upto}
 use Rattle.tasks.specs.Effects.{target, taskAfter}
 use Rattle.regions.specs.Effects.{regionAfter}
-use Rattle.timer_effects.specs.Effects.{timerAfter, timersLeft}
+use Rattle.timers.specs.Effects.{timerAfter, timersLeft}
 
 module _ (t : Table) (c : Call) (a : Accepted t c) where
   parts : Parts t

@@ -26,7 +26,7 @@ use Rattle.rules.proofs.Refusals.{Accepted, accepted-facts}
 use Rattle.queues.specs.Gaps.{closedIn}
 use Rattle.queues.specs.Places.{placeIn}
 use Rattle.queues.proofs.Places.{place-is, none-is, given-is, taken-is}
-use Rattle.ringing.proofs.Signals.{ticked-is}
+use Rattle.timers.proofs.Signals.{ticked-is}
 use Rattle.tasks.specs.Effects.{target, taskAfter}
 use Rattle.refusals.proofs.Refused.{room, send-there, retrieve-there}
 use Rattle.tables.specs.Fronts.{told}
