@@ -14,7 +14,7 @@ use rules::STORE;
 use rules::Table;
 use store_reading::store_in;
 use tables::table_of;
-use whole_table::is_valid;
+use validity::is_valid;
 ghost use mathlib.Core.Path.{_≡_};
 ghost use mathlib.Core.Bool.{cond};
 ghost use lib.ListN.{length};

@@ -1,9 +1,9 @@
 // One call on a table whose store is lent, with the validity check before it.
-use front_validity::front_valid;
 use rules::Call;
 use tables::Front;
 use tables::FrontDone;
 use told_calls::call_told;
+use validity::front_valid;
 ghost use mathlib.Core.Path.{_≡_};
 ghost use lib.ListN.{length};
 ghost use Rattle.rules.specs.Step.{step};

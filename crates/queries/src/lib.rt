@@ -9,7 +9,7 @@ use rules::Answer;
 use rules::Table;
 use tables::byte_at;
 use tasks::met_by;
-use whole_table::is_valid;
+use validity::is_valid;
 ghost use mathlib.Core.Path.{_≡_};
 ghost use lib.ListN.{length, getD};
 ghost use Rattle.rules.specs.Queries.{arrivedQuery, priorityQuery, stateQuery};

@@ -5,7 +5,7 @@ use replies::reply_of;
 use rules::Answer;
 use rules::Table;
 use tables::byte_at;
-use whole_table::is_valid;
+use validity::is_valid;
 ghost use mathlib.Core.Path.{_≡_};
 ghost use Rattle.rules.specs.Queries.{emptyQuery, fullQuery};
 

@@ -1,9 +1,9 @@
 // The calls of a log, one after the other, on a table whose store is lent.
-use front_validity::front_valid;
 use packing::answer_number;
 use rules::Call;
 use tables::Front;
 use told_calls::call_told;
+use validity::front_valid;
 ghost use mathlib.Core.Path.{_≡_};
 ghost use Prim.Native.Nat.{_+_, _*_, _≤_, _<_, min};
 ghost use lib.ListN.{length};

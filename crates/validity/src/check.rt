@@ -17,7 +17,7 @@ ghost use Rattle.validity.specs.Lent.{lent};
 
 // The regions' entries are joined once, and serve the regions' part and the election. There is a way out before each call and each loop, so
 // that the numbers of a part in packed instructions are done with, and need not be put aside.
-pub fn valid_of<'a>(
+pub(crate) fn valid_of<'a>(
     tasks: u8,
     regions: u8,
     queues: u8,

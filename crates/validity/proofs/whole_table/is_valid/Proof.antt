@@ -1,9 +1,9 @@
 -- The arrays have the lengths of their types.
 use borrow.Author.Needs.{needs}
 use native.Mathlib.Omega.{arith}
 use Rattle.validity.specs.Lent.{Lengths}
-use Rattle.whole_table.proofs.is_valid.Statement.{statement}
-use Rattle.whole_table.proofs.is_valid.Tie as tie
+use Rattle.validity.proofs.whole_table.is_valid.Statement.{statement}
+use Rattle.validity.proofs.whole_table.is_valid.Tie as tie
 
 long : (c : tie.Start) → Lengths (c .args .t1 .priority) (c .args .t1 .state) (c .args .t1 .arrived) (c .args .t1 .list) (c .args .t1 .operator) (c .args .t1 .holder) (c .args .t1 .entries) (c .args .t1 .bound) (c .args .t1 .length) (c .args .t1 .element) (c .args .t1 .criterion)
 long c = search needs

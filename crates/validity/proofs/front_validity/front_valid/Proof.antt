@@ -1,9 +1,9 @@
 -- The lengths that the types give are what the check asks.
 use borrow.Author.Needs.{needs}
 use native.Mathlib.Omega.{arith}
 use Rattle.validity.specs.Lent.{Lengths}
-use Rattle.front_validity.proofs.front_valid.Statement.{statement}
-use Rattle.front_validity.proofs.front_valid.Tie as tie
+use Rattle.validity.proofs.front_validity.front_valid.Statement.{statement}
+use Rattle.validity.proofs.front_validity.front_valid.Tie as tie
 
 long : (c : tie.Start) → Lengths (c .args .t1 .priority) (c .args .t1 .state) (c .args .t1 .arrived) (c .args .t1 .list) (c .args .t1 .operator) (c .args .t1 .holder) (c .args .t1 .entries) (c .args .t1 .bound) (c .args .t1 .length) (c .args .element .now) (c .args .criterion .now)
 long c = search needs

@@ -1,6 +1,6 @@
 // Whether a table is valid, given as a front and a lent store.
+use crate::check::valid_of;
 use tables::Front;
-use validity::valid_of;
 ghost use mathlib.Core.Path.{_≡_};
 ghost use lib.ListN.{length};
 ghost use Rattle.rules.specs.Validity.{valid};

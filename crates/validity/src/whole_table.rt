@@ -1,6 +1,6 @@
 // Validity of a table that is handed over whole.
+use crate::check::valid_of;
 use rules::Table;
-use validity::valid_of;
 ghost use mathlib.Core.Path.{_≡_};
 ghost use Rattle.rules.specs.Validity.{valid};
 
