@@ -15,8 +15,8 @@ use Rattle.rules.specs.Words.{first}
 use Rattle.rules.specs.Refusals.{othersAt, wrongState, leaves, missing}
 use Rattle.rules.proofs.Effects.{upto}
 use Rattle.refusals.specs.Late.{timerFlags, lateFlags}
-use Rattle.task_reasons.specs.Flags.{wrongTask, taskFlags}
-use Rattle.queue_reasons.specs.Flags.{lacking, queueFlags}
+use Rattle.refusals.specs.TaskFlags.{wrongTask, taskFlags}
+use Rattle.refusals.specs.QueueFlags.{lacking, queueFlags}
 
 -- before ARM, 15 is about tasks
 wrong-below : (states : List ℕ) (timers : List Timer) (c : Call) → c .operation < ARM → wrongState states timers c ≡ wrongTask states c

@@ -22,7 +22,7 @@ use Rattle.rules.proofs.Queues.{queue-length}
 use Rattle.rules.proofs.Validity.{Parts, parts-of, sound}
 use Rattle.rules.proofs.Refusals.{first-append}
 use Rattle.queues.proofs.Places.{none-is}
-use Rattle.queue_reasons.specs.Flags.{lacking}
+use Rattle.refusals.specs.QueueFlags.{lacking}
 use Rattle.refusals.specs.Late.{lateFlags, early, refusalBy}
 
 abbrev pub flagsOf : Table → Call → List Reason

@@ -10,7 +10,7 @@ use Rattle.rules.specs.Numbers.{WAIT, ENTER, SEND, TICK}
 use Rattle.rules.specs.Words.{isZero, Reason, when, first}
 use Rattle.rules.specs.Regions.{held}
 use Rattle.rules.specs.Refusals.{outsideBarred, notElected, tickByTask, missing, badOperator, othersAt, wrongState, leaves, entriesFull}
-use Rattle.queue_reasons.specs.Flags.{lacking}
+use Rattle.refusals.specs.QueueFlags.{lacking}
 
 -- that of ARM and DISARM; TICK and whatever comes behind it have none
 unfoldable pub timerFlags : List Timer → Call → List Reason

@@ -1,11 +1,11 @@
 // The refusals, in the order of the status table: the first that applies.
-use call_numbers::missing_of;
-use queue_reasons::queue_reason_of;
-use reasons::early_of;
-use reasons::pick;
+use crate::call_numbers::missing_of;
+use crate::choice::pick;
+use crate::early::early_of;
+use crate::queue_reasons::queue_reason_of;
+use crate::task_reasons::task_reason_of;
 use rules::Call;
 use rules::Timer;
-use task_reasons::task_reason_of;
 use timers::others_at;
 ghost use mathlib.Core.Path.{_≡_};
 ghost use lib.ListN.{length};

@@ -1,6 +1,6 @@
 // What a query's answer is made of: why it is refused, and the value, which stands only where nothing is refused.
-use reasons::pick;
-use reasons::reported_by;
+use refusals::pick;
+use refusals::reported_by;
 use rules::Answer;
 ghost use mathlib.Core.Path.{_≡_};
 ghost use mathlib.Core.Bool.{not, _||_};

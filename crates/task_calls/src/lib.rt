@@ -1,6 +1,6 @@
 // START, STOP, END, SIGNAL, WAIT and CLEAR, once accepted: one task changes.
 use election::elected_by;
-use reasons::pick;
+use refusals::pick;
 use regions::held_by;
 use rules::Answer;
 use rules::Call;

@@ -1,8 +1,8 @@
 // One call on a table whose store is lent, told whether the table is valid: refused with the first reason that applies, or done by its kind.
 use queue_calls::retrieve_call;
 use queue_calls::send_call;
-use reasons::reported_by;
 use refusals::refusal_of;
+use refusals::reported_by;
 use region_calls::region_call;
 use rules::Answer;
 use rules::Call;

@@ -1,0 +1,63 @@
+// Why a call about tasks or regions is refused, once its numbers stand for something: the first reason that applies.
+use crate::call_numbers::leaves_of;
+use crate::choice::pick;
+use regions::held_by;
+use rules::Call;
+use tables::byte_at;
+ghost use mathlib.Core.Path.{_≡_};
+ghost use mathlib.Core.Bool.{not, _&&_};
+ghost use lib.Dec.{eqb};
+ghost use lib.ListN.{length};
+ghost use Rattle.rules.specs.Words.{isZero, first};
+ghost use Rattle.rules.specs.Regions.{held};
+ghost use Rattle.rules.specs.Refusals.{leaves, entriesFull};
+ghost use Rattle.refusals.specs.TaskFlags.{wrongTask, taskFlags};
+
+// 15 of the calls about tasks: START of a task not stopped, STOP or SIGNAL of a stopped one.
+fn wrong_task_of(state: &[u8; 32], k: Call) -> bool
+    requires { ⌜ length (now state) ≡ 32 ⌝ }
+    ensures { λ r. ⌜ r ≡ wrongTask (now (state .entry)) k ⌝ }
+{
+    let operation = k.operation;
+    let a = byte_at(state, k.a as usize) == 0;
+    let b = byte_at(state, k.b as usize) == 0;
+    ((operation == 0) & !a) | (((operation == 1) & a) | ((operation == 3) & b))
+}
+
+// 16: WAIT, END or STOP of oneself while a region is occupied. No other call looks at the regions.
+fn inside_of(holder: &[u8; 16], k: Call) -> bool
+    requires { ⌜ length (now holder) ≡ 16 ⌝ }
+    ensures { λ r. ⌜ r ≡ (leaves k && not (isZero (held (now (holder .entry))))) ⌝ }
+{
+    if leaves_of(k) {
+        return held_by(holder) != 0;
+    }
+    false
+}
+
+// 22: ENTER of a region whose count is at its end.
+fn deepest_of(entries: &[u8; 16], k: Call) -> bool
+    requires { ⌜ length (now entries) ≡ 16 ⌝ }
+    ensures { λ r. ⌜ r ≡ (eqb (k .operation) 6 && entriesFull (now (entries .entry)) (k .a)) ⌝ }
+{
+    let n = byte_at(entries, k.a as usize);
+    (k.operation == 6) & (n == 255)
+}
+
+// 19, 15, 16 and 22: what is left to ask of a call that is about tasks or regions.
+pub(crate) fn task_reason_of<'a>(
+    state: &'a [u8; 32],
+    holder: &'a [u8; 16],
+    entries: &'a [u8; 16],
+    k: Call,
+) -> u8
+    requires { ⌜ length (now state) ≡ 32 ⌝ }
+    requires { ⌜ length (now holder) ≡ 16 ⌝ }
+    requires { ⌜ length (now entries) ≡ 16 ⌝ }
+    ensures { λ r. ⌜ r ≡ first (taskFlags (now (state .entry)) (now (holder .entry)) (now (entries .entry)) k) ⌝ }
+{
+    let r22 = pick(deepest_of(entries, k), 22, 0);
+    let r16 = pick(inside_of(holder, k), 16, r22);
+    let r15 = pick(wrong_task_of(state, k), 15, r16);
+    pick((k.operation == 4) & (1 < k.b), 19, r15)
+}
