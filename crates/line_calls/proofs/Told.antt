@@ -8,8 +8,8 @@ use Rattle.rules.specs.Validity.{valid}
 use Rattle.theorems.proofs.Kept.{valid-same}
 use Rattle.tables.specs.declared.fronts.FrontDone.{FrontDone}
 use Rattle.tables.specs.Fronts.{whole, frontDone}
-use Rattle.told_calls.proofs.Cases.{in-parts}
-use Rattle.told_calls.proofs.Told.{told-is}
+use Rattle.calls.proofs.Cases.{in-parts}
+use Rattle.calls.proofs.Told.{told-is}
 use Rattle.bench_line.specs.declared.Heard.{Heard}
 use Rattle.bench_line.specs.Steps.{malformed, heardDone}
 use Rattle.line_calls.specs.Told.{heardTold}

@@ -2,7 +2,7 @@
 use mathlib.Core.Bool.{Bool, cond}
 use Rattle.rules.specs.declared.Table.{Table}
 use Rattle.rules.specs.declared.Done.{Done}
-use Rattle.told_calls.specs.Told.{stepTold}
+use Rattle.calls.specs.Told.{stepTold}
 use Rattle.bench_line.specs.declared.Heard.{Heard}
 use Rattle.bench_line.specs.Steps.{malformed}
 

@@ -1,9 +1,9 @@
 // What a line behind the first does to a table whose store is lent.
 use bench_line::Heard;
 use bench_line::malformed_answer;
+use calls::call_told;
 use tables::Front;
 use tables::FrontDone;
-use told_calls::call_told;
 ghost use mathlib.Core.Path.{_≡_};
 ghost use lib.ListN.{length};
 ghost use Rattle.tables.specs.Fronts.{whole, frontDone};

@@ -1,8 +1,8 @@
 // The calls of a log, one after the other, on a table whose store is lent.
+use calls::call_told;
 use packing::answer_number;
 use rules::Call;
 use tables::Front;
-use told_calls::call_told;
 use validity::front_valid;
 ghost use mathlib.Core.Path.{_≡_};
 ghost use Prim.Native.Nat.{_+_, _*_, _≤_, _<_, min};

@@ -5,7 +5,7 @@ use Prim.Native.Nat.{_-_, _*_, _≤_}
 use mathlib.Core.Path.{_≡_, refl, _∙_}
 use lib.ListN.{length, length-set}
 use Rattle.tables.specs.Fronts.{whole}
-use Rattle.told_calls.proofs.Told.{told-parts}
+use Rattle.calls.proofs.Told.{told-parts}
 use Rattle.replay.proofs.Runs.{Ran, ran-none, ran-again, ran-all}
 use Rattle.replay.proofs.log.run_lent.Statement.{statement}
 use Rattle.replay.proofs.log.run_lent.Tie as tie

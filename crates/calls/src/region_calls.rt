@@ -1,0 +1,43 @@
+// ENTER and EXIT, once accepted: one region changes, and the elected task is found afresh.
+use election::elected_by;
+use regions::held_by;
+use regions::region_after;
+use rules::Answer;
+use rules::Call;
+use rules::Region;
+use tables::Front;
+use tables::FrontDone;
+ghost use mathlib.Core.Path.{_≡_};
+ghost use Rattle.tables.specs.Fronts.{frontDone, storeless};
+ghost use Rattle.calls.specs.RegionMade.{regionMade};
+
+pub(crate) fn region_call(mut t: Front, k: Call) -> FrontDone
+    ensures { λ r. ⌜ r ≡ frontDone (regionMade (storeless t) k) ⌝ }
+{
+    let at = (k.a % 16) as usize;
+    let mine = std::num::wrapping_add_u8(k.caller, 1);
+    let holder = t.holder[at];
+    let entries = t.entries[at];
+    let region = region_after(
+        k,
+        mine,
+        Region {
+            holder: holder,
+            entries: entries,
+        },
+    );
+    t.holder[at] = region.holder;
+    t.entries[at] = region.entries;
+    let v = held_by(&t.holder);
+    let next = elected_by(v, &t.state, &t.priority);
+    t.elected = next;
+    FrontDone {
+        front: t,
+        answer: Answer {
+            status: 0,
+            value: 0,
+            key: 0,
+            elected: t.elected,
+        },
+    }
+}

@@ -1,0 +1,62 @@
+// START, STOP, END, SIGNAL, WAIT and CLEAR, once accepted: one task changes.
+use election::elected_by;
+use refusals::pick;
+use regions::held_by;
+use rules::Answer;
+use rules::Call;
+use rules::Task;
+use tables::Front;
+use tables::FrontDone;
+use tasks::met_by;
+use tasks::target_of;
+use tasks::task_after;
+use timers::timers_left;
+ghost use mathlib.Core.Path.{_≡_};
+ghost use Rattle.tables.specs.Fronts.{frontDone, storeless};
+ghost use Rattle.calls.specs.TaskMade.{taskMade};
+
+// Nobody is elected afresh where the task keeps its state. A task that STOP or END names isn't stopped yet, so that its timers need a look
+// only where its state changes.
+pub(crate) fn task_call(mut t: Front, k: Call) -> FrontDone
+    ensures { λ r. ⌜ r ≡ frontDone (taskMade (storeless t) k) ⌝ }
+{
+    let i = (target_of(k) % 32) as usize;
+    let r = Task {
+        state: t.state[i],
+        arrived: t.arrived[i],
+        list: t.list[i],
+        operator: t.operator[i],
+    };
+    let met = met_by((k.b % 256) as u8, (k.a % 65536) as u16, r.arrived);
+    let after = task_after(k, r);
+    let status = pick((k.operation == 4) & !met, 1, 0);
+    t.state[i] = after.state;
+    t.arrived[i] = after.arrived;
+    t.list[i] = after.list;
+    t.operator[i] = after.operator;
+    if after.state == r.state {
+        return FrontDone {
+            front: t,
+            answer: Answer {
+                status: status,
+                value: 0,
+                key: 0,
+                elected: t.elected,
+            },
+        };
+    }
+    let v = held_by(&t.holder);
+    let next = elected_by(v, &t.state, &t.priority);
+    t.elected = next;
+    let timers = t.timers;
+    t.timers = timers_left(k.operation, i as u8, timers);
+    FrontDone {
+        front: t,
+        answer: Answer {
+            status: status,
+            value: 0,
+            key: 0,
+            elected: t.elected,
+        },
+    }
+}

@@ -1,2 +1,0 @@
--- A law for this crate's proofs.
-mod Given

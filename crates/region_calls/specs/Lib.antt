@@ -1,2 +1,0 @@
--- The definitions that this crate's contracts cite.
-pub mod Made
