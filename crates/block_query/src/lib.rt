@@ -1,14 +1,14 @@
 // One query, on a block: the queries by number, on the table that the block holds.
+use executive::arrived;
+use executive::empty;
+use executive::full;
+use executive::priority;
+use executive::state;
 use front_reading::front_in;
 use layout::SIZE;
 use layout::unused_zero;
 use packing::NOT_A_TABLE;
 use packing::answer_number;
-use queries::arrived;
-use queries::empty;
-use queries::full;
-use queries::priority;
-use queries::state;
 use rules::Answer;
 use rules::STORE;
 use rules::Table;

@@ -1,0 +1,53 @@
+// The three queries about tasks, beside those about queues: each answers and changes nothing.
+use crate::replies::arrived_status;
+use crate::replies::object_status;
+use crate::replies::one_if;
+use crate::replies::reply_of;
+use rules::Answer;
+use rules::Table;
+use tables::byte_at;
+use tasks::met_by;
+use validity::is_valid;
+ghost use mathlib.Core.Path.{_≡_};
+ghost use lib.ListN.{length, getD};
+ghost use Rattle.rules.specs.Queries.{arrivedQuery, priorityQuery, stateQuery};
+
+// The events of a task, none for one that does not exist.
+fn events_at(arrived: &[u16; 32], i: u8) -> u16
+    requires { ⌜ length (now arrived) ≡ 32 ⌝ }
+    ensures { λ r. ⌜ r ≡ getD (now (arrived .entry)) i 0 ⌝ }
+{
+    let at = i as usize;
+    if at < 32 { arrived[at] } else { 0 }
+}
+
+// ARRIVED: 1 if the condition on the caller's events is met.
+pub fn arrived(t: Table, caller: u8, list: u32, operator: u32) -> Answer
+    ensures { λ r. ⌜ r ≡ arrivedQuery t caller list operator ⌝ }
+{
+    let ok = is_valid(t);
+    let status = arrived_status(ok, t.elected, caller, list, operator);
+    let events = events_at(&t.arrived, caller);
+    let met = met_by((operator % 256) as u8, (list % 65536) as u16, events);
+    reply_of(status, one_if(met), t.elected)
+}
+
+// PRIORITY: the task's configured number.
+pub fn priority(t: Table, task: u32) -> Answer
+    ensures { λ r. ⌜ r ≡ priorityQuery t task ⌝ }
+{
+    let ok = is_valid(t);
+    let status = object_status(ok, t.tasks, task);
+    let p = byte_at(&t.priority, task as usize);
+    reply_of(status, p as u32, t.elected)
+}
+
+// STATE: 0 stopped, 1 ready, 2 waiting.
+pub fn state(t: Table, task: u32) -> Answer
+    ensures { λ r. ⌜ r ≡ stateQuery t task ⌝ }
+{
+    let ok = is_valid(t);
+    let status = object_status(ok, t.tasks, task);
+    let s = byte_at(&t.state, task as usize);
+    reply_of(status, s as u32, t.elected)
+}

@@ -1,2 +1,0 @@
--- Laws of answers, for the proofs of the crates above.
-pub mod Alike
