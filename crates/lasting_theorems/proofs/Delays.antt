@@ -24,10 +24,10 @@ use Rattle.rules.specs.Step.{step}
 use Rattle.rules.proofs.Bools.{and-left, and-right, or-left, or-right}
 use Rattle.rules.proofs.Lists.{every-at, altered-here, altered-other}
 use Rattle.rules.proofs.Events.{has-arrived, has-other}
-use Rattle.table_laws.proofs.Tasks.{signalled-arrived}
-use Rattle.table_laws.proofs.Columns.{changed-same, task-other, changed-leaves}
+use Rattle.theorems.proofs.Tasks.{signalled-arrived}
+use Rattle.theorems.proofs.Columns.{changed-same, task-other, changed-leaves}
 use Rattle.rules.proofs.Clock.{ahead-later, ahead-next}
-use Rattle.table_laws.proofs.Timers.{disarm-others, timer-given, idle-right, due-last, counter-fits, each-right}
+use Rattle.theorems.proofs.ArmedTimers.{disarm-others, timer-given, idle-right, due-last, counter-fits, each-right}
 use Rattle.rules.proofs.Validity.{Parts, parts-of}
 use Rattle.rules.proofs.Refusals.{Accepted, accepted-facts}
 use Rattle.rules.proofs.Effects.{each-effect}

@@ -22,8 +22,8 @@ use Rattle.rules.specs.Step.{step}
 use Rattle.rules.proofs.Bools.{or-left, or-right, both, not-intro}
 use Rattle.rules.proofs.Bits.{bit-of-zero}
 use Rattle.rules.proofs.Events.{has-arrived, has-other, has-cleared}
-use Rattle.table_laws.proofs.Tasks.{signalled-arrived}
-use Rattle.table_laws.proofs.Columns.{changed-same, task-other, changed-holds}
+use Rattle.theorems.proofs.Tasks.{signalled-arrived}
+use Rattle.theorems.proofs.Columns.{changed-same, task-other, changed-holds}
 use Rattle.rules.proofs.Validity.{Parts, parts-of, row-right, waits-unmet}
 use Rattle.rules.proofs.Refusals.{Accepted, accepted-facts}
 use Rattle.rules.proofs.Effects.{each-effect}

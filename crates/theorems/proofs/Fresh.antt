@@ -22,7 +22,7 @@ use Rattle.rules.proofs.Counts.{below-all}
 use Rattle.rules.proofs.Lists.{every-in, every-take, every-drop, every-replicate, length-padded, padded-at, padded-past}
 use Rattle.rules.proofs.Election.{Wins, wins-alone, best-wins, election-free}
 use Rattle.rules.proofs.Validity.{rowFits, rowZero, row-shown, tasksRight, entriesEverywhere, holderRight, boundFits, queueRight, queuesRight, Parts, valid-parts, counts-fit}
-use Rattle.table_laws.proofs.Timers.{idle-right, timers-shown}
+use Rattle.theorems.proofs.ArmedTimers.{idle-right, timers-shown}
 use Rattle.theorems.specs.Kept.{FreshValid, ZerosInvalid}
 use Rattle.theorems.proofs.Regions.{free-fits}
 

@@ -24,7 +24,7 @@ use Rattle.rules.specs.Refusals.{notElected, absent, badKey, badDelay, stoppedA
 use Rattle.rules.specs.Effects.{stoppedTable, nothing, operations, effect}
 use Rattle.rules.specs.Step.{step}
 use Rattle.rules.proofs.Bools.{given, or-left, or-right, not-intro}
-use Rattle.table_laws.proofs.Tasks.{signalled-stopped, signalled-ready}
+use Rattle.theorems.proofs.Tasks.{signalled-stopped, signalled-ready}
 use Rattle.rules.proofs.Validity.{Parts, parts-of, valid-parts, row-right, elected-ready, elected-below}
 use Rattle.rules.proofs.Refusals.{Accepted, accepted-facts}
 use Rattle.rules.proofs.Effects.{each-effect}

@@ -1,4 +1,9 @@
+-- Laws of the columns, of one task under signals, of the holders and of one timer.
 -- The proofs of what `specs/` states.
+pub mod Columns
+pub mod Tasks
+pub mod HeldRegions
+pub mod ArmedTimers
 pub mod Rows
 pub mod Regions
 pub mod Queues

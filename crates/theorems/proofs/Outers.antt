@@ -12,8 +12,8 @@ use Rattle.rules.specs.Timers.{later, isDue, rung}
 use Rattle.rules.specs.Tables.{withTimers, changed}
 use Rattle.rules.specs.Validity.{shaped}
 use Rattle.rules.specs.Effects.{ringing, ticked}
-use Rattle.table_laws.proofs.Tasks.{signalled-comm}
-use Rattle.table_laws.proofs.Columns.{changed-comm}
+use Rattle.theorems.proofs.Tasks.{signalled-comm}
+use Rattle.theorems.proofs.Columns.{changed-comm}
 use Rattle.theorems.specs.Happenings.{Signal, Outer, signal, tick}
 use Rattle.theorems.proofs.Timers.{ring, ring-shaped, ringing-stopped, ticked-shaped}
 use Rattle.theorems.proofs.Signals.{bad, signalStatus, signalTable, heard-room, signal-shaped, status-same, signal-comm}

@@ -20,7 +20,7 @@ use Rattle.rules.specs.Refusals.{entriesFull}
 use Rattle.rules.proofs.Bools.{and-right, both, or-cases, or-first, or-second, not-intro}
 use Rattle.rules.proofs.Counts.{below-at, below-all}
 use Rattle.rules.proofs.Election.{election-held}
-use Rattle.table_laws.proofs.Regions.{held-at, held-free}
+use Rattle.theorems.proofs.HeldRegions.{held-at, held-free}
 use Rattle.rules.proofs.Entries.{entries-most, entries-some, entries-shown, regions-long}
 use Rattle.rules.proofs.Validity.{regionFits, regionsRight, entriesEverywhere, holderRight, Parts, counts-fit, entries-fit, elected-ready, elected-below}
 

@@ -24,8 +24,8 @@ use Rattle.rules.specs.Validity.{shaped, timerRight, timersRight}
 use Rattle.rules.proofs.Bools.{and-left, and-right, both, not-intro}
 use Rattle.rules.proofs.Counts.{below-at, below-all}
 use Rattle.rules.proofs.Events.{arrive-lt, cleared-le}
-use Rattle.table_laws.proofs.Columns.{columns-long, shaped-with}
-use Rattle.table_laws.proofs.Timers.{every-map, every-kept, awake-right, stopped-right, counter-fits, each-right, timers-shown}
+use Rattle.theorems.proofs.Columns.{columns-long, shaped-with}
+use Rattle.theorems.proofs.ArmedTimers.{every-map, every-kept, awake-right, stopped-right, counter-fits, each-right, timers-shown}
 use Rattle.rules.proofs.Validity.{Row, row-shown, rowFits, tasksRight, holderRight, Parts, counts-fit}
 
 -- a task with this priority is right

@@ -21,7 +21,7 @@ use Rattle.rules.specs.Refusals.{missing, refusal}
 use Rattle.rules.specs.Effects.{Effect, ticked, nothing, operations, effect}
 use Rattle.rules.specs.Step.{step}
 use Rattle.rules.proofs.Bools.{given}
-use Rattle.table_laws.proofs.Regions.{held-free}
+use Rattle.theorems.proofs.HeldRegions.{held-free}
 use Rattle.rules.proofs.Election.{best-wins, best-nobody, election-held, election-free}
 use Rattle.rules.proofs.Validity.{Parts, parts-of, held-fits, row-right, row-zero, rowZero, counts-fit, elected-ready, elected-below}
 use Rattle.rules.proofs.Refusals.{Accepted, accepted-facts}

@@ -12,8 +12,8 @@ use Rattle.rules.specs.Tables.{taskOf, changed}
 use Rattle.rules.specs.Validity.{shaped}
 use Rattle.rules.specs.Refusals.{absent}
 use Rattle.rules.proofs.Bools.{or-right}
-use Rattle.table_laws.proofs.Tasks.{signalled-comm, signalled-stopped}
-use Rattle.table_laws.proofs.Columns.{shaped-with, changed-keeps, changed-comm}
+use Rattle.theorems.proofs.Tasks.{signalled-comm, signalled-stopped}
+use Rattle.theorems.proofs.Columns.{shaped-with, changed-keeps, changed-comm}
 use Rattle.theorems.specs.Happenings.{Signal}
 use Rattle.theorems.proofs.Kept.{there}
 

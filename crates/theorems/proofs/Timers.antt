@@ -18,10 +18,10 @@ use Rattle.rules.specs.Refusals.{stoppedAt}
 use Rattle.rules.specs.Effects.{ringing, ticked}
 use Rattle.rules.proofs.Bools.{given, and-left}
 use Rattle.rules.proofs.Lists.{every-head, every-tail, length-altered}
-use Rattle.table_laws.proofs.Tasks.{signalled-stopped, signalled-ready}
-use Rattle.table_laws.proofs.Columns.{shaped-with, changed-leaves}
+use Rattle.theorems.proofs.Tasks.{signalled-stopped, signalled-ready}
+use Rattle.theorems.proofs.Columns.{shaped-with, changed-leaves}
 use Rattle.rules.proofs.Clock.{later-fits}
-use Rattle.table_laws.proofs.Timers.{Counting, every-map, every-altered, timer-given, timer-states, armed-right, disarmed-right, rung-right, counter-fits, each-right, timers-shown, timers-states}
+use Rattle.theorems.proofs.ArmedTimers.{Counting, every-map, every-altered, timer-given, timer-states, armed-right, disarmed-right, rung-right, counter-fits, each-right, timers-shown, timers-states}
 use Rattle.rules.proofs.Validity.{Parts, row-right}
 use Rattle.rules.proofs.Effects.{ringing-same}
 use Rattle.theorems.proofs.Rows.{signalled-fits, below-room, keep-task, timers-awake}

@@ -1,1 +1,0 @@
-// Laws of the rules that no other law of theirs needs, in `proofs/`. There is no code here.
