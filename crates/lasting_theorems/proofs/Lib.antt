@@ -2,3 +2,4 @@
 pub mod Balanced
 pub mod Lasting
 pub mod Delays
+pub mod Examples

@@ -23,7 +23,7 @@ use Rattle.rules.specs.Step.{step}
 use Rattle.exclusion.specs.Marks.{marks, mark, passesSignal}
 use Rattle.theorems.specs.Happenings.{Reply}
 use Rattle.theorems.proofs.Order.{demand3}
-use Rattle.examples.specs.Examples.{begun, by, Premise, SameEnd, counting, ticksFirst, ticksLater, SameEndTicking, NotInTurn, NotFree, NotPastArm, NotPastDisarm, NotOnlyRefusing, NotFixed, NotUntouched}
+use Rattle.lasting_theorems.specs.Examples.{begun, by, Premise, SameEnd, counting, ticksFirst, ticksLater, SameEndTicking, NotInTurn, NotFree, NotPastArm, NotPastDisarm, NotOnlyRefusing, NotFixed, NotUntouched}
 
 -- to unfold this is to unfold all that the rules compute with
 rules : Unit {0}

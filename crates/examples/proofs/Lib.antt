@@ -1,2 +1,0 @@
--- The proofs of what `specs/` states.
-pub mod Examples
