@@ -8,9 +8,9 @@ use layout::LIST;
 use layout::OPERATOR;
 use layout::PRIORITY;
 use layout::STATE;
+use packing::put_bytes;
+use packing::put_halves;
 use tables::Front;
-use writing::put_bytes;
-use writing::put_halves;
 ghost use mathlib.Core.Path.{_≡_};
 ghost use Rattle.front_writing.specs.Heads.{columnsPut, headsPut, headPut};
 

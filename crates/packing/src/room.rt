@@ -3,7 +3,7 @@ ghost use mathlib.Core.Path.{_≡_};
 ghost use Rattle.packing.specs.Bytes.{hasRoom};
 
 // No sum or product is made that might not fit. Numbers of no bytes have room wherever there is a place.
-pub fn has_room(size: usize, at: usize, width: usize, count: usize) -> bool
+pub(crate) fn has_room(size: usize, at: usize, width: usize, count: usize) -> bool
     ensures { λ r. ⌜ r ≡ hasRoom size at width count ⌝ }
 {
     if size < at {

@@ -1,8 +1,8 @@
 // The store read from a block: the elements and the criteria of all queues.
 use layout::CRITERION;
 use layout::ELEMENT;
-use reading::take_bytes;
-use word_reading::take_words;
+use packing::take_bytes;
+use packing::take_words;
 ghost use mathlib.Core.Path.{_≡_};
 ghost use Rattle.packing.specs.Bytes.{taken};
 ghost use Rattle.layout.specs.Layout.{elementPlace, criterionPlace};

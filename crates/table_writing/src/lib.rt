@@ -4,11 +4,11 @@ use layout::CRITERION;
 use layout::ELEMENT;
 use layout::TICKS;
 use layout::TIMER;
+use packing::put_bytes;
+use packing::put_timers;
+use packing::put_words;
 use rules::Timer;
 use tables::Front;
-use word_writing::put_timers;
-use word_writing::put_words;
-use writing::put_bytes;
 ghost use mathlib.Core.Path.{_≡_};
 ghost use Rattle.table_writing.specs.Wholes.{tailPut, wholePut, frontPacked};
 

@@ -1,6 +1,0 @@
-// Reads numbers of one and two bytes out of a block of bytes. The two bytes of a number are cut out of the block, where the compiler can
-// see that they lie side by side, and makes one copy of the whole loop.
-mod numbers;
-
-pub use numbers::take_bytes;
-pub use numbers::take_halves;
