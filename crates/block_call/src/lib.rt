@@ -1,15 +1,15 @@
 // One call, on a block.
 use calls::call_checked;
-use front_reading::front_in;
 use layout::SIZE;
+use layout::front_in;
+use layout::pack_front;
+use layout::pack_whole;
+use layout::store_in;
 use layout::unused_zero;
 use packing::NOT_A_TABLE;
 use packing::answer_number;
 use rules::Call;
 use rules::STORE;
-use store_reading::store_in;
-use table_writing::pack_front;
-use table_writing::pack_whole;
 ghost use mathlib.Core.Path.{_≡_};
 ghost use Rattle.layout.specs.Calls.{callOf, callBlock};
 

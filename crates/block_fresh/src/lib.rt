@@ -1,9 +1,9 @@
 // Make fresh, on a block.
 use layout::SIZE;
+use layout::pack_whole;
 use packing::NOT_A_TABLE;
 use packing::answer_number;
 use rules::Table;
-use table_writing::pack_whole;
 use tables::fresh;
 use tables::front_of;
 ghost use mathlib.Core.Path.{_≡_};

@@ -6,27 +6,27 @@ use rules::TASKS;
 use rules::TIMERS;
 
 // The counts and the elected task stand in the first four bytes; each part begins where the one before it ends.
-pub const PRIORITY: usize = 4;
+pub(crate) const PRIORITY: usize = 4;
 
-pub const STATE: usize = PRIORITY + TASKS;
+pub(crate) const STATE: usize = PRIORITY + TASKS;
 
 pub const ARRIVED: usize = STATE + TASKS;
 
 pub const LIST: usize = ARRIVED + 2 * TASKS;
 
-pub const OPERATOR: usize = LIST + 2 * TASKS;
+pub(crate) const OPERATOR: usize = LIST + 2 * TASKS;
 
-pub const HOLDER: usize = OPERATOR + TASKS;
+pub(crate) const HOLDER: usize = OPERATOR + TASKS;
 
-pub const ENTRIES: usize = HOLDER + REGIONS;
+pub(crate) const ENTRIES: usize = HOLDER + REGIONS;
 
-pub const BOUND: usize = ENTRIES + REGIONS;
+pub(crate) const BOUND: usize = ENTRIES + REGIONS;
 
-pub const LENGTH: usize = BOUND + QUEUES;
+pub(crate) const LENGTH: usize = BOUND + QUEUES;
 
 pub const ELEMENT: usize = LENGTH + QUEUES;
 
-pub const CRITERION: usize = ELEMENT + 4 * STORE;
+pub(crate) const CRITERION: usize = ELEMENT + 4 * STORE;
 
 pub const TICKS: usize = CRITERION + STORE;
 

@@ -11,9 +11,9 @@ use Rattle.tables.specs.declared.fronts.Front.{Front}
 use Rattle.tables.specs.Fronts.{whole, frontOf}
 use Rattle.layout.specs.Layout.{blockSize, unpacked, packed, unusedZero}
 use Rattle.layout.proofs.Sizes.{Sized, unpacked-sized}
-use Rattle.table_writing.specs.Wholes.{wholePut}
-use Rattle.layout_theorems.proofs.Writing.{whole-put}
-use Rattle.layout_theorems.proofs.Lengths.{step-sized}
+use Rattle.layout.specs.Wholes.{wholePut}
+use Rattle.layout.proofs.Writing.{whole-put}
+use Rattle.layout.proofs.PartLengths.{step-sized}
 use Rattle.replay.specs.Log.{callAt, replayed, laps, logged}
 use Rattle.replay.specs.Replay.{replayBlock}
 

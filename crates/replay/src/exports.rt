@@ -1,11 +1,11 @@
 // A replay, for C or Rust to call with the block that holds the table.
 use super::log::run_log;
-use front_reading::front_in;
 use layout::SIZE;
+use layout::front_in;
+use layout::pack_whole;
+use layout::store_in;
 use layout::unused_zero;
 use rules::STORE;
-use store_reading::store_in;
-use table_writing::pack_whole;
 ghost use mathlib.Core.Path.{_≡_};
 ghost use Rattle.replay.specs.Replay.{replayBlock};
 

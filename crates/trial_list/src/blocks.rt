@@ -1,12 +1,12 @@
 // Tables as blocks of bytes: each field of a table has bytes of its own in its block (docs/BLOCK.md), so that two tables are the same
 // where their blocks are, and a block with one number changed is a table with one number changed.
 use check::same;
-use front_reading::front_in;
 use layout::SIZE;
+use layout::front_in;
+use layout::pack_whole;
+use layout::store_in;
 use rules::STORE;
 use rules::Table;
-use store_reading::store_in;
-use table_writing::pack_whole;
 use tables::front_of;
 use tables::table_of;
 

@@ -5,7 +5,7 @@ use Prim.Native.Nat.{ℕ}
 use mathlib.Core.Path.{sym, _∙_}
 use lib.ListN.{length-replicate}
 use borrow.Author.Tests.{not-true, not-false}
-use Rattle.layout_theorems.proofs.Reading.{parts-read}
+use Rattle.layout.proofs.Reading.{parts-read}
 use Rattle.layout.proofs.Back.{all-bytes}
 use Rattle.layout.specs.Calls.{callOf}
 use Rattle.block_call.proofs.Called.{stored-long, call-small, call-used, call-done, call-kept, call-refused}

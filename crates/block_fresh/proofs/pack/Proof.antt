@@ -6,7 +6,7 @@ use Rattle.tables.specs.declared.fronts.Front.{Front}
 use Rattle.tables.specs.Fronts.{whole, frontOf}
 use Rattle.layout.specs.Layout.{blockSize, packed}
 use Rattle.layout.proofs.Sizes.{Sized, length-mapped}
-use Rattle.layout_theorems.proofs.Writing.{whole-put}
+use Rattle.layout.proofs.Writing.{whole-put}
 use Rattle.block_fresh.proofs.pack.Statement.{statement}
 use Rattle.block_fresh.proofs.pack.Tie as tie
 

@@ -4,7 +4,7 @@ use Prim.Native.Nat.{ℕ}
 use mathlib.Core.Path.{_≡_, _∙_}
 use lib.ListN.{length, length-replicate}
 use Rattle.layout.specs.Layout.{blockSize}
-use Rattle.layout_theorems.proofs.Reading.{parts-read}
+use Rattle.layout.proofs.Reading.{parts-read}
 use Rattle.block_query.proofs.unpack.Statement.{statement}
 use Rattle.block_query.proofs.unpack.Tie as tie
 

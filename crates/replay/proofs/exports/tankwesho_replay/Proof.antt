@@ -4,7 +4,7 @@ use Prim.Native.Nat.{ℕ}
 use mathlib.Core.Path.{sym, _∙_}
 use lib.ListN.{length-replicate}
 use borrow.Author.Tests.{not-true, not-false}
-use Rattle.layout_theorems.proofs.Reading.{parts-read}
+use Rattle.layout.proofs.Reading.{parts-read}
 use Rattle.replay.proofs.Laps.{replay-small, replay-used, replay-done, replayed-long}
 use Rattle.replay.proofs.exports.tankwesho_replay.Statement.{statement}
 use Rattle.replay.proofs.exports.tankwesho_replay.Tie as tie

@@ -1,2 +1,0 @@
--- The front of a table in a block.
-pub mod Fronts

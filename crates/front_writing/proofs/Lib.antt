@@ -1,2 +1,0 @@
--- A law that the proof of `put_columns` cites.
-pub mod Lengths

@@ -1,2 +1,0 @@
--- The parts before the store, as they are written.
-pub mod Heads

@@ -1,0 +1,22 @@
+-- What stands before the store, written over a block part by part.
+use Prim.Native.Nat.{ℕ}
+use mathlib.Core.List.{List, [], _∷_}
+use Rattle.tables.specs.declared.fronts.Front.{Front}
+use Rattle.packing.specs.Bytes.{put}
+use Rattle.layout.specs.Layout.{priorityPlace, statePlace, arrivedPlace, listPlace, operatorPlace, holderPlace, entriesPlace, boundPlace, lengthPlace}
+
+abbrev pub columnsPut : List ℕ → List ℕ → List ℕ → List ℕ → List ℕ → List ℕ → List ℕ
+columnsPut priority state arrived list operator block =
+    put 1 operatorPlace operator
+    (put 2 listPlace list (put 2 arrivedPlace arrived (put 1 statePlace state (put 1 priorityPlace priority block))))
+
+abbrev pub headsPut : List ℕ → List ℕ → List ℕ → List ℕ → List ℕ → List ℕ
+headsPut holder entries bound lengths block =
+    put 1 lengthPlace lengths (put 1 boundPlace bound (put 1 entriesPlace entries (put 1 holderPlace holder block)))
+
+-- all that stands before the store
+unfoldable pub headPut : Front → List ℕ → List ℕ
+headPut f block =
+    headsPut (f .holder) (f .entries) (f .bound) (f .length)
+    (columnsPut (f .priority) (f .state) (f .arrived) (f .list) (f .operator)
+    (put 1 0 (f .tasks ∷ f .regions ∷ f .queues ∷ f .elected ∷ []) block))

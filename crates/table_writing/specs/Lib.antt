@@ -1,2 +1,0 @@
--- The table as it is written.
-pub mod Wholes
