@@ -1,0 +1,49 @@
+-- The table in its parts.
+use borrow.Author.Needs.{needs}
+use mathlib.Core.Path.{_≡_, refl, sym, ap, subst, _∙_}
+use lib.ListN.{length}
+use Rattle.tables.specs.declared.fronts.Front.{Front}
+use Rattle.tables.specs.Fronts.{whole, frontOf}
+use Rattle.layout.specs.Layout.{blockSize, packed}
+use Rattle.layout.proofs.Sizes.{Sized, length-mapped}
+use Rattle.layout.proofs.Writing.{whole-put}
+use Rattle.block.proofs.fresh.pack.Statement.{statement}
+use Rattle.block.proofs.fresh.pack.Tie as tie
+
+size : (c : tie.Start) → length (c .args .block .now) ≡ blockSize
+size c = search needs
+
+sized : (c : tie.Start) → Sized (c .args .t)
+sized c = search (needs, length-mapped)
+
+whole-is : (c : tie.Start) (f : Front) → f ≡ frontOf (c .args .t) → whole f (c .args .t .element) (c .args .t .criterion) ≡ c .args .t
+whole-is c f e = rw e refl
+
+front-of-requires : tie.Need-front-of-requires
+front-of-requires c κs = search needs
+
+slice-aggregate-pack-whole : tie.Need-slice-aggregate-pack-whole
+slice-aggregate-pack-whole c = sym (sized (c .before .before .before .before .before) .element-long)
+
+slice-aggregate-pack-whole-2 : tie.Need-slice-aggregate-pack-whole-2
+slice-aggregate-pack-whole-2 c = sym (sized (c .before .before .before .before .before .before) .criterion-long)
+
+pack-whole-requires : tie.Need-pack-whole-requires
+pack-whole-requires c κs = search needs
+
+same-length : tie.Need-same-length
+same-length c = search needs
+
+returns : tie.Need-returns
+returns c = let same = whole-is (c .before .before .before .before .before .before .before .before .before .before) _ (c .before .before .before .before .before .before .front-of .ensures) in c .before .before .pack-whole .ensures ∙ whole-put _ _ _ _ (subst Sized (sym same) (sized (c .before .before .before .before .before .before .before .before .before .before))) (size (c .before .before .before .before .before .before .before .before .before .before)) ∙ ap packed same
+
+pub pack-spec : {M : Type 1} → statement M
+pack-spec =
+    tie.close
+    (tie.spec
+    front-of-requires
+    slice-aggregate-pack-whole
+    slice-aggregate-pack-whole-2
+    pack-whole-requires
+    same-length
+    returns)
