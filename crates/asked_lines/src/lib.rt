@@ -5,7 +5,7 @@ use bench_line::unheard;
 use call_lines::call_line_at;
 use frames::call_of;
 use lines::Line;
-use log_lines::line_from;
+use lines::line_from;
 ghost use mathlib.Core.Path.{_≡_};
 ghost use mathlib.Core.Bool.{true};
 ghost use Rattle.call_lines.specs.CallLine.{callLineAt};

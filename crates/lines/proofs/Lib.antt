@@ -1,4 +1,6 @@
 -- Laws for this crate's proofs and for its callers'.
+-- How a `Reader` in a local is lent to a callee, for this crate's proofs.
 pub mod Search
 pub mod Places
 pub mod Within
+mod Lent

@@ -5,7 +5,7 @@ ghost use Rattle.lines.specs.Reading.{placeAfter};
 use crate::ends::Line;
 
 // The place behind a line: behind its line feed, or the end of the log where none ends it.
-pub fn place_after(s: &[u8], line: Line) -> usize
+pub(crate) fn place_after(s: &[u8], line: Line) -> usize
     ensures { λ r. ⌜ r ≡ placeAfter (now (s .entry)) line ⌝ }
 {
     match line {
@@ -21,7 +21,7 @@ pub fn place_after(s: &[u8], line: Line) -> usize
 }
 
 // What stands from a place on: nothing where the place lies past the end.
-pub fn rest_at(s: &[u8], at: usize) -> &[u8]
+pub(crate) fn rest_at(s: &[u8], at: usize) -> &[u8]
     ensures { λ r. ⌜ now r ≡ drop at (now (s .entry)) ⌝ }
 {
     if at < s.len() {

@@ -36,7 +36,7 @@ fn feed_from(s: &[u8], at: usize) -> usize
     s.len()
 }
 
-pub fn line_at(s: &[u8], at: usize) -> Line
+pub(crate) fn line_at(s: &[u8], at: usize) -> Line
     ensures { λ r. ⌜ r ≡ lineAt (now (s .entry)) at ⌝ }
 {
     if s.len() <= at {

@@ -2,7 +2,7 @@
 use bench_line::malformed_answer;
 use first_lines::first_line;
 use lines::Line;
-use log_lines::line_from;
+use lines::line_from;
 use opening::first_refused;
 use rules::Done;
 use rules::Table;

@@ -1,4 +1,4 @@
--- `log_lines::line_from` meets its contract: a walk of its MIR, by hand. The `Reader` that `reader_of` returns is put into a local; the local is lent to `next_line` by `&mut`, for a lifetime that is made for the call, and comes back (`Lent.antt`); the line is what `next_line` returned.
+-- `lines::log_lines::line_from` meets its contract: a walk of its MIR, by hand. The `Reader` that `reader_of` returns is put into a local; the local is lent to `next_line` by `&mut`, for a lifetime that is made for the call, and comes back (`Lent.antt`); the line is what `next_line` returned.
 -- All that the proof knows of `reader_of` and of `next_line` is that each meets its contract.
 -- Assumes nothing.
 use mathlib.Core.Path.{_≡_, refl, ap, _∙_}
@@ -42,27 +42,27 @@ use denote.Triple.Spec.{Meets, tripleOf}
 use denote.Triple.Table.{entered, cited}
 use denote.Triple.Walked.{says, Stays, stay-none, stay-none-slice, walkOf, goes-none, goes-none-slice, Walks, ends-at, walked, walk-meets}
 use denote.Exit.{yes}
 use Rattle.lines.specs.Ends.{lineAt}
 use Rattle.lines.specs.Reading.{placeAfter}
 use Rattle.lines.specs.declared.ends.Line.{Line}
-use Rattle.reader.specs.declared.Reader.{Reader}
-use Rattle.log_lines.proofs.Lent.{R, ref, Cell, Tokens, Kept, lies-in, lends, comes-back}
-use Rattle.reader.proofs.Reader as T
-use Rattle.reader.proofs.Reader.Laws as T′
+use Rattle.lines.specs.declared.reader.Reader.{Reader}
+use Rattle.lines.proofs.Lent.{R, ref, Cell, Tokens, Kept, lies-in, lends, comes-back}
+use Rattle.lines.proofs.reader.Reader as T
+use Rattle.lines.proofs.reader.Reader.Laws as T′
 use Rattle.lines.proofs.ends.Line as S
 use Rattle.lines.proofs.ends.Line.Laws as S′
-use Rattle.reader.proofs.reader_of as reader-of
-use Rattle.reader.proofs.reader_of.Symbol as reader-of-def
-use Rattle.reader.proofs.reader_of.Symbol.{name as #reader·reader-of}
-use Rattle.reader.proofs.reader_of.Met as reader-of-thm
-use Rattle.reader.proofs.next_line as next-line
-use Rattle.reader.proofs.next_line.Symbol as next-line-def
-use Rattle.reader.proofs.next_line.Symbol.{name as #reader·next-line}
-use Rattle.reader.proofs.next_line.Met as next-line-thm
-use Rattle.log_lines.proofs.line_from.Key.{name as #log-lines·line-from}
-use Rattle.log_lines.proofs.line_from as line-from
-use Rattle.log_lines.proofs.line_from.Statement as stated
-use Rattle.log_lines.proofs.line_from.Code as code
+use Rattle.lines.proofs.reader.reader_of as reader-of
+use Rattle.lines.proofs.reader.reader_of.Symbol as reader-of-def
+use Rattle.lines.proofs.reader.reader_of.Symbol.{name as #lines·reader·reader-of}
+use Rattle.lines.proofs.reader.reader_of.Met as reader-of-thm
+use Rattle.lines.proofs.reader.next_line as next-line
+use Rattle.lines.proofs.reader.next_line.Symbol as next-line-def
+use Rattle.lines.proofs.reader.next_line.Symbol.{name as #lines·reader·next-line}
+use Rattle.lines.proofs.reader.next_line.Met as next-line-thm
+use Rattle.lines.proofs.log_lines.line_from.Key.{name as #lines·log-lines·line-from}
+use Rattle.lines.proofs.log_lines.line_from as line-from
+use Rattle.lines.proofs.log_lines.line_from.Statement as stated
+use Rattle.lines.proofs.log_lines.line_from.Code as code
 
 -- the struct's type, over the signature's lifetimes
 abbrev B : Lfts 1 → RattleType
@@ -132,7 +132,7 @@ module _ {M : Type 1} (𝓤 : URA M) (H : Heap 𝓤) (A : Atoms 𝓤) (W : Given
       suffices ! _ (ends-at 𝓤 H A line-from.ended stayed (line-from.clauses 𝓤 H A at-mem run) W (((κ, tt), (q, tt), tt, (s, (n, tt)), at), tt) u l (tt, (tt, tt)) (tt, (tt, tt))) $ says ! e $
       nothing ! $ move ! (2 ∷ 0 ∷ []) $ join ! $ frame ! $ nothing ! $ owned ! usize (Is usize) (uint-makes 𝓤 H A W w64) n _ (refl, ok) $ fjoin ! $ move ! (2 ∷ 0 ∷ []) $ fjoin ! $ frame ! $ done !
 
-  module _ (C : Calls 𝓤 H) (Λ : Loops 𝓤 H) (fm : FmC 𝓤 H (W .laws) C) (known-of : Triple 𝓤 (C #reader·reader-of) (ReaderOf 𝓤 H A at-mem run)) (known-next : Triple 𝓤 (C #reader·next-line) (NextLine 𝓤 H A at-mem run)) where
+  module _ (C : Calls 𝓤 H) (Λ : Loops 𝓤 H) (fm : FmC 𝓤 H (W .laws) C) (known-of : Triple 𝓤 (C #lines·reader·reader-of) (ReaderOf 𝓤 H A at-mem run)) (known-next : Triple 𝓤 (C #lines·reader·next-line) (NextLine 𝓤 H A at-mem run)) where
     walk : Is (ShrSlice (named 0) κ u8) s (v ∷ []) → ent 𝓤 (onEntry 𝓤 H A line-from.signature (κ, tt) (q, tt) (s, (n, tt)) at) (WpFn 𝓤 H C Λ code.function (v ∷ vint w64 n ∷ []) Post)
     walk p =
         qed W (raw (onEntry 𝓤 H A line-from.signature (κ, tt) (q, tt) (s, (n, tt)) at) ∷ []) ∵ enter ! C Λ code.function (v ∷ vint w64 n ∷ []) _ $
@@ -167,13 +167,13 @@ module _ {M : Type 1} (𝓤 : URA M) (H : Heap 𝓤) (A : Atoms 𝓤) (W : Given
         keep ! (0 ∷ 2 ∷ 5 ∷ []) $ by ! (exits l u′ (e′ .0 ∙ (ap (λ (x : RefT (List ℕ)). lineAt (now x) (r .at)) (e .0) ∙ ap (lineAt (now s)) (e .1)))))))))))))))))))))
 
 module _ {M : Type 1} (𝓤 : URA M) (H : Heap 𝓤) (A : Atoms 𝓤) (W : Given 𝓤 H A) (mem : Memory → SProp 𝓤) (run : Routine → Fun 𝓤) where
-  line-from-walks : (C : Calls 𝓤 H) (Λ : Loops 𝓤 H) → FmC 𝓤 H (W .laws) C → Triple 𝓤 (C #reader·reader-of) (ReaderOf 𝓤 H A mem run) → Triple 𝓤 (C #reader·next-line) (NextLine 𝓤 H A mem run)
+  line-from-walks : (C : Calls 𝓤 H) (Λ : Loops 𝓤 H) → FmC 𝓤 H (W .laws) C → Triple 𝓤 (C #lines·reader·reader-of) (ReaderOf 𝓤 H A mem run) → Triple 𝓤 (C #lines·reader·next-line) (NextLine 𝓤 H A mem run)
       → Walks 𝓤 H A line-from.ended stayed (WpFn 𝓤 H C Λ code.function) (line-from.clauses 𝓤 H A mem run)
   line-from-walks C Λ fm known-of known-next = walked 𝓤 H A line-from.ended stayed (line-from.clauses 𝓤 H A mem run) (WpFn 𝓤 H C Λ code.function) (λ κs. (slice-vals, (uint-vals w64, tt))) (λ κs. (shr-slice-tells (named 0) (κs .0) u8, (uint-tells w64, tt)))
       (λ κs qs bounds a g are. via 𝓤 _ (fst∗ 𝓤 _ (emp 𝓤)) (walk 𝓤 H A W mem run (κs .0) (qs .0) (a .0) (a .1 .0) (are .1 .0 .1) C Λ fm known-of known-next (are .0)))
 
 line-from-meets : {M : Type 1} (𝓤 : URA M) (H : Heap 𝓤) (A : Atoms 𝓤) (W : Given 𝓤 H A) (mem : Memory → SProp 𝓤) (run : Routine → Fun 𝓤) (𝓣 : Tables 𝓤 H)
-    → Triple 𝓤 (𝓣 .C #reader·reader-of) (ReaderOf 𝓤 H A mem run) → Triple 𝓤 (𝓣 .C #reader·next-line) (NextLine 𝓤 H A mem run)
+    → Triple 𝓤 (𝓣 .C #lines·reader·reader-of) (ReaderOf 𝓤 H A mem run) → Triple 𝓤 (𝓣 .C #lines·reader·next-line) (NextLine 𝓤 H A mem run)
     → Meets 𝓤 H A line-from.signature (WpFn 𝓤 H (𝓣 .C) (𝓣 .Λ) code.function) (line-from.spec 𝓤 H A mem run)
 line-from-meets 𝓤 H A W mem run 𝓣 known-of known-next = walk-meets 𝓤 H A line-from.ended stayed W (goes-none-slice 𝓤 H A W 1 (0 ∷ []) tt (plain (λ _. u8)) yes, (goes-none 𝓤 H A W 1 (λ _. usize) yes (λ κs x f. refl), tt)) (line-from.clauses 𝓤 H A mem run) (WpFn 𝓤 H (𝓣 .C) (𝓣 .Λ) code.function) (WpFn-mono 𝓤 H (W .laws) 𝓣 code.function)
     (line-from-walks 𝓤 H A W mem run (𝓣 .C) (𝓣 .Λ) (fmOf 𝓤 H (W .laws) 𝓣) known-of known-next)
@@ -182,7 +182,7 @@ pub line-from-spec : {M : Type 1} → stated.statement M
 unfolding code.routine tablesOf
 line-from-spec 𝓤 H 𝓜 𝓖 𝓡 =
     entered 𝓤 H (tripleOf 𝓤 H (𝓖 .A) line-from.signature (line-from.spec 𝓤 H (𝓖 .A) (𝓜 .mem) (𝓡 .run)))
-    (tables 𝓤 H 𝓜 𝓡 code.env .C) (tables 𝓤 H 𝓜 𝓡 code.env .Λ) #log-lines·line-from code.function (code.unfolded 𝓤 H 𝓜 𝓡)
+    (tables 𝓤 H 𝓜 𝓡 code.env .C) (tables 𝓤 H 𝓜 𝓡 code.env .Λ) #lines·log-lines·line-from code.function (code.unfolded 𝓤 H 𝓜 𝓡)
     (line-from-meets 𝓤 H (𝓖 .A) (givenOf 𝓤 H 𝓜 𝓖) (𝓜 .mem) (𝓡 .run) (tablesOf 𝓤 H 𝓜 (tables 𝓤 H 𝓜 𝓡 code.env))
-    (cited 𝓤 H (ReaderOf 𝓤 H (𝓖 .A) (𝓜 .mem) (𝓡 .run)) 𝓜 𝓡 code.env #reader·reader-of reader-of-def.routine code.calls-reader·reader-of (reader-of-thm.met 𝓤 H 𝓜 𝓖 𝓡))
-    (cited 𝓤 H (NextLine 𝓤 H (𝓖 .A) (𝓜 .mem) (𝓡 .run)) 𝓜 𝓡 code.env #reader·next-line next-line-def.routine code.calls-reader·next-line (next-line-thm.met 𝓤 H 𝓜 𝓖 𝓡)))
+    (cited 𝓤 H (ReaderOf 𝓤 H (𝓖 .A) (𝓜 .mem) (𝓡 .run)) 𝓜 𝓡 code.env #lines·reader·reader-of reader-of-def.routine code.calls-lines·reader·reader-of (reader-of-thm.met 𝓤 H 𝓜 𝓖 𝓡))
+    (cited 𝓤 H (NextLine 𝓤 H (𝓖 .A) (𝓜 .mem) (𝓡 .run)) 𝓜 𝓡 code.env #lines·reader·next-line next-line-def.routine code.calls-lines·reader·next-line (next-line-thm.met 𝓤 H 𝓜 𝓖 𝓡)))

@@ -1,4 +1,4 @@
--- `reader::reader_of` meets its contract: a walk of its MIR, by hand. A `Reader` is made of the slice and the place passed, in the result's local.
+-- `lines::reader::reader_of` meets its contract: a walk of its MIR, by hand. A `Reader` is made of the slice and the place passed, in the result's local.
 -- A `&[u8]` is Copy, so what it owns is had twice: once for log at exit, and once inside the result, beside the facts of at.
 -- Assumes nothing.
 use mathlib.Core.Path.{refl}
@@ -34,13 +34,13 @@ use denote.Triple.Spec.{Meets, tripleOf}
 use denote.Triple.Table.{entered}
 use denote.Triple.Walked.{says, Stays, stay-none, stay-none-slice, walkOf, goes-none, goes-none-slice, Walks, ends-at, walked, walk-meets}
 use denote.Exit.{yes}
-use Rattle.reader.specs.declared.Reader.{Reader}
-use Rattle.reader.proofs.Reader as T
-use Rattle.reader.proofs.Reader.Laws as T′
-use Rattle.reader.proofs.reader_of.Key.{name as #reader·reader-of}
-use Rattle.reader.proofs.reader_of as reader-of
-use Rattle.reader.proofs.reader_of.Statement as stated
-use Rattle.reader.proofs.reader_of.Code as code
+use Rattle.lines.specs.declared.reader.Reader.{Reader}
+use Rattle.lines.proofs.reader.Reader as T
+use Rattle.lines.proofs.reader.Reader.Laws as T′
+use Rattle.lines.proofs.reader.reader_of.Key.{name as #lines·reader·reader-of}
+use Rattle.lines.proofs.reader.reader_of as reader-of
+use Rattle.lines.proofs.reader.reader_of.Statement as stated
+use Rattle.lines.proofs.reader.reader_of.Code as code
 
 abbrev stayed : Stays (reader-of.ended .signature .params) (reader-of.ended .kept)
 stayed = (stay-none-slice (0 ∷ []) tt (plain (λ _. u8)) yes, (stay-none (λ _. usize) yes, tt))
@@ -95,5 +95,5 @@ pub reader-of-spec : {M : Type 1} → stated.statement M
 unfolding code.routine tablesOf
 reader-of-spec 𝓤 H 𝓜 𝓖 𝓡 =
     entered 𝓤 H (tripleOf 𝓤 H (𝓖 .A) reader-of.signature (reader-of.spec 𝓤 H (𝓖 .A) (𝓜 .mem) (𝓡 .run)))
-    (tables 𝓤 H 𝓜 𝓡 code.env .C) (tables 𝓤 H 𝓜 𝓡 code.env .Λ) #reader·reader-of code.function (code.unfolded 𝓤 H 𝓜 𝓡)
+    (tables 𝓤 H 𝓜 𝓡 code.env .C) (tables 𝓤 H 𝓜 𝓡 code.env .Λ) #lines·reader·reader-of code.function (code.unfolded 𝓤 H 𝓜 𝓡)
     (reader-of-meets 𝓤 H (𝓖 .A) (givenOf 𝓤 H 𝓜 𝓖) (𝓜 .mem) (𝓡 .run) (tablesOf 𝓤 H 𝓜 (tables 𝓤 H 𝓜 𝓡 code.env)))

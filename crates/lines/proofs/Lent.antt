@@ -25,9 +25,9 @@ use denote.Steps.{nothing}
 use denote.Struct.Laws as LL
 use denote.Struct.Steps.{spelt}
 use borrow.Within.Token.{Rest, within-token, within-end}
-use Rattle.reader.specs.declared.Reader.{Reader}
-use Rattle.reader.proofs.Reader as T
-use Rattle.reader.proofs.Reader.Laws as T′
+use Rattle.lines.specs.declared.reader.Reader.{Reader}
+use Rattle.lines.proofs.reader.Reader as T
+use Rattle.lines.proofs.reader.Reader.Laws as T′
 
 module _ {M : Type 1} (𝓤 : URA M) (H : Heap 𝓤) (A : Atoms 𝓤) (W : Given 𝓤 H A) (κ : Lft) (q : Share) (l : ℕ) where
   -- the struct's type at the log's lifetime, as the callee's signature names it

@@ -1,12 +1,12 @@
 // A reader that walks the lines of a lent log and remembers its place: thin functions over the line reader by value.
-use lines::Line;
-use lines::line_at;
-use lines::place_after;
-use lines::rest_at;
+use crate::after::place_after;
+use crate::after::rest_at;
+use crate::ends::Line;
+use crate::ends::line_at;
 ghost use mathlib.Core.Path.{_≡_};
 ghost use lib.ListN.{drop};
 ghost use Rattle.lines.specs.Ends.{lineAt};
 ghost use Rattle.lines.specs.Reading.{placeAfter};
 
 // The log, and the place where its next line begins.
 pub struct Reader<'a> {
@@ -15,14 +15,14 @@ pub struct Reader<'a> {
 }
 
 // A reader at a place.
-pub fn reader_of<'a>(log: &'a [u8], at: usize) -> Reader<'a>
+pub(crate) fn reader_of<'a>(log: &'a [u8], at: usize) -> Reader<'a>
     ensures { λ r. ⌜ (r .log ≡ log .entry) × (r .at ≡ at) ⌝ }
 {
     Reader { log, at }
 }
 
 // The line at the reader's place; the reader moves behind it.
-pub fn next_line<'s, 'a>(r: &'s mut Reader<'a>) -> Line
+pub(crate) fn next_line<'s, 'a>(r: &'s mut Reader<'a>) -> Line
     ensures { λ l. ⌜ (l ≡ lineAt (now (now (r .entry) .log)) (now (r .entry) .at)) × (now (r .exit) .log ≡ now (r .entry) .log)
         × (now (r .exit) .at ≡ placeAfter (now (now (r .entry) .log)) (lineAt (now (now (r .entry) .log)) (now (r .entry) .at))) ⌝ }
 {
