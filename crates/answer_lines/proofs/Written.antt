@@ -9,7 +9,7 @@ use borrow.Author.Tests.{le-leb, lt-leb}
 use borrow.Rule.Slice.PartMut.{midOf, putMid}
 use Rattle.rules.specs.declared.Answer.{Answer}
 use Rattle.digits.specs.Digits.{digits}
-use Rattle.written_digits.proofs.Put.{digits-length}
+use Rattle.digits.proofs.Put.{digits-length}
 use Rattle.answer_lines.specs.Answers.{answerLine, placed}
 
 -- ---- a list written from its start on: l has `front` for the first a bytes of `old`

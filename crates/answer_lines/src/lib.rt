@@ -1,6 +1,6 @@
 // The answer line, written where the caller has room for it.
+use digits::put_digits;
 use rules::Answer;
-use written_digits::put_digits;
 ghost use mathlib.Core.Path.{_≡_};
 ghost use lib.ListN.{length};
 ghost use Rattle.answer_lines.specs.Answers.{answerLine, placed};

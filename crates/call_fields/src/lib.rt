@@ -1,6 +1,6 @@
 // The call in a line, its numbers read one after the other.
-use fields::byte_at;
-use fields::word_at;
+use digits::byte_at;
+use digits::word_at;
 use rules::Call;
 ghost use mathlib.Core.Path.{_≡_};
 ghost use Rattle.call_fields.specs.Calls.{callIn};

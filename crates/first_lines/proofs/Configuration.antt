@@ -15,7 +15,7 @@ use Rattle.rules.specs.Fresh.{configurationInRange, freshTable, zeroTable, fres
 use Rattle.rules.proofs.Bools.{given}
 use Rattle.rules.proofs.Lists.{every-cons, every-nil, every-take, every-drop, padded-at, padded-past, length-padded}
 use Rattle.digits.specs.Digits.{value, field}
-use Rattle.fields.proofs.Values.{value-fits}
+use Rattle.digits.proofs.Values.{value-fits}
 use Rattle.tables.proofs.Fills.{filled, filled-again, filled-end}
 use Rattle.lines.specs.Ends.{part}
 use Rattle.opening.specs.Start.{firstRefused}

@@ -1,6 +1,6 @@
 // The first line of a session, which is the configuration.
 use digits::all_digits;
-use fields::byte_at;
+use digits::byte_at;
 use opening::first_refused;
 use rules::Done;
 use tables::fresh;

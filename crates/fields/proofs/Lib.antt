@@ -1,3 +1,0 @@
--- Laws for this crate's proofs and for its callers'.
-pub mod Values
-pub mod Parts
