@@ -16,10 +16,10 @@ use Rattle.rules.proofs.Bools.{and-left, and-right}
 use Rattle.digits.specs.Digits.{isDigit}
 use Rattle.lines.specs.declared.ends.Line.the-variants.{Whole}
 use Rattle.lines.specs.Ends.{lineFeed, lineIn, lineAt, part}
-use Rattle.call_fields.specs.Calls.{callIn}
+use Rattle.frames.specs.Calls.{callIn}
 use Rattle.bench_line.specs.Steps.{asking, heard}
 use Rattle.bench_line.proofs.Called.{heard-of-digits}
-use Rattle.call_lines.specs.CallLine.{callLineAt}
+use Rattle.frames.specs.CallLine.{callLineAt}
 use Rattle.asked_lines.specs.AskedAt.{asked, askedOf, askedAt}
 
 digit-no-feed : (b : ℕ) → isDigit b ≡ true → eqb b lineFeed ≡ false

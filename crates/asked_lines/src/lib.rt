@@ -2,13 +2,13 @@
 use bench_line::Heard;
 use bench_line::heard_of;
 use bench_line::unheard;
-use call_lines::call_line_at;
+use frames::call_line_at;
 use frames::call_of;
 use lines::Line;
 use lines::line_from;
 ghost use mathlib.Core.Path.{_≡_};
 ghost use mathlib.Core.Bool.{true};
-ghost use Rattle.call_lines.specs.CallLine.{callLineAt};
+ghost use Rattle.frames.specs.CallLine.{callLineAt};
 ghost use Rattle.asked_lines.specs.AskedAt.{askedAt};
 
 // What the line asks for. `next` is 0 where no line is ended there: behind a line there is at least its line feed.

@@ -11,7 +11,7 @@ use Rattle.rules.specs.declared.Call.{Call}
 use Rattle.rules.specs.Words.{every}
 use Rattle.digits.specs.Digits.{isDigit}
 use Rattle.lines.specs.Ends.{longest}
-use Rattle.call_fields.specs.Calls.{callLength, callIn}
+use Rattle.frames.specs.Calls.{callLength, callIn}
 use Rattle.first_lines.specs.First.{plain, firstReasons, firstLine}
 use Rattle.first_lines.proofs.Plain.{not-true, not-false}
 use Rattle.opening.specs.declared.Standing.{Standing}

@@ -11,7 +11,7 @@ use Rattle.rules.specs.declared.Done.{Done}
 use Rattle.rules.specs.Numbers.{nobody}
 use Rattle.rules.specs.Words.{isZero}
 use Rattle.rules.specs.Step.{step}
-use Rattle.call_fields.specs.Calls.{callLength, callIn}
+use Rattle.frames.specs.Calls.{callLength, callIn}
 use Rattle.opening.specs.declared.Standing.{Standing}
 use Rattle.opening.specs.Start.{firstRefused}
 use Rattle.first_lines.specs.First.{plain, firstLine}

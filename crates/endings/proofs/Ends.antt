@@ -7,8 +7,8 @@ use native.Mathlib.Omega.{arith}
 use lib.Dec.{leb}
 use lib.ListN.{length}
 use borrow.Author.Tests.{le-leb, lt-leb, leb-true}
-use Rattle.answer_lines.specs.Answers.{answerLine, placed}
-use Rattle.answer_lines.proofs.Written.{answer-length}
+use Rattle.frames.specs.Answers.{answerLine, placed}
+use Rattle.frames.proofs.Written.{answer-length}
 use Rattle.opening.specs.declared.Standing.{Standing}
 use Rattle.bench_line.specs.Steps.{malformed}
 use Rattle.endings.specs.Ending.{ending, endingLength}

@@ -4,7 +4,7 @@ use mathlib.Core.Bool.{cond}
 use mathlib.Core.List.{List, [], _∷_}
 use lib.Dec.{leb}
 use lib.ListN.{length}
-use Rattle.answer_lines.specs.Answers.{answerLine}
+use Rattle.frames.specs.Answers.{answerLine}
 use Rattle.opening.specs.declared.Standing.{Standing}
 use Rattle.bench_line.specs.Steps.{malformed}
 

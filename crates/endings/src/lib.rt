@@ -1,10 +1,10 @@
 // The end of a bench session's input.
-use answer_lines::put_answer;
 use bench_line::malformed_answer;
+use frames::put_answer;
 use opening::Standing;
 ghost use mathlib.Core.Path.{_≡_};
 ghost use lib.ListN.{length};
-ghost use Rattle.answer_lines.specs.Answers.{placed};
+ghost use Rattle.frames.specs.Answers.{placed};
 ghost use Rattle.endings.specs.Ending.{ending, endingLength};
 
 // Bytes that no line feed ended get one answer. Returns how many bytes were written.

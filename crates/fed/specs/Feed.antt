@@ -6,7 +6,7 @@ use lib.Dec.{leb}
 use lib.ListN.{length, take, drop}
 use Rattle.rules.specs.declared.Table.{Table}
 use Rattle.rules.specs.Words.{isZero}
-use Rattle.answer_lines.specs.Answers.{answerLine, placed}
+use Rattle.frames.specs.Answers.{answerLine, placed}
 use Rattle.opening.specs.declared.Standing.{Standing}
 use Rattle.turns.specs.Places.{standing, turnAt}
 use Rattle.fed.specs.declared.Fed.{Fed}

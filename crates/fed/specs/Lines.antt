@@ -4,7 +4,7 @@ use mathlib.Core.Bool.{true, cond}
 use mathlib.Core.List.{List, [], _∷_, _++_}
 use lib.Dec.{eqb}
 use Rattle.lines.specs.Ends.{lineFeed}
-use Rattle.answer_lines.specs.Answers.{answerLine}
+use Rattle.frames.specs.Answers.{answerLine}
 use Rattle.opening.specs.declared.Standing.{Standing}
 use Rattle.bench_line.specs.Steps.{lineDone}
 

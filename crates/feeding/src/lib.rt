@@ -1,10 +1,10 @@
 // The ended lines of a piece of the input, answered one after the other.
-use answer_lines::put_answer;
 use asked_lines::asked_at;
 use fed::Fed;
 use fed::answers_left;
 use fed::fed_at;
 use first_fed::opened;
+use frames::put_answer;
 use line_calls::line_told;
 use opening::Standing;
 use rules::Table;

@@ -11,8 +11,8 @@ use lib.Seq.{take-nil, take-at, drop-at, drop-drop, length-take-le}
 use borrow.Author.Tests.{le-leb, leb-true, leb-false, eqb-true, eqb-false, not-false}
 use Rattle.rules.specs.declared.Table.{Table}
 use Rattle.rules.specs.declared.Answer.{Answer}
-use Rattle.answer_lines.specs.Answers.{answerLine, placed}
-use Rattle.answer_lines.proofs.Written.{answer-length}
+use Rattle.frames.specs.Answers.{answerLine, placed}
+use Rattle.frames.proofs.Written.{answer-length}
 use Rattle.opening.specs.declared.Standing.{Standing}
 use Rattle.turns.specs.declared.Turn.{Turn}
 use Rattle.asked_lines.specs.declared.Asked.{Asked}

@@ -6,7 +6,7 @@ use mathlib.Core.List.{List}
 use lib.ListN.{length}
 use borrow.Author.Tests.{le-leb, lt-leb, ne-eqb}
 use Rattle.rules.specs.declared.Table.{Table}
-use Rattle.answer_lines.specs.Answers.{answerLine, placed}
+use Rattle.frames.specs.Answers.{answerLine, placed}
 use Rattle.turns.specs.declared.Turn.{Turn}
 use Rattle.fed.specs.declared.Fed.{Fed}
 use Rattle.turns.specs.Places.{standing, turnAt}

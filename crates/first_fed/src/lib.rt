@@ -1,7 +1,7 @@
 // The first line of a piece of the input, answered.
-use answer_lines::put_answer;
 use fed::Fed;
 use fed::fed_at;
+use frames::put_answer;
 use opening::Standing;
 use turns::first_turn;
 ghost use mathlib.Core.Path.{_≡_};

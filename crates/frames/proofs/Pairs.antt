@@ -9,7 +9,7 @@ use lib.ListN.{length, take, drop, getD, set}
 use lib.Seq.{drop-cons, getD-take, getD-drop, getD-set-same, getD-set-other}
 use Rattle.rules.specs.declared.Call.{Call}
 use Rattle.digits.specs.Digits.{digit, valueFrom, field}
-use Rattle.call_fields.specs.Calls.{callIn}
+use Rattle.frames.specs.Calls.{callIn}
 use Rattle.frames.specs.Pairs.{pairAt, wordOf}
 
 -- the first i of them stand in r

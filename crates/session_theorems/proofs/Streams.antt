@@ -14,7 +14,7 @@ use Rattle.opening.specs.declared.Standing.{Standing}
 use Rattle.opening.specs.Start.{start}
 use Rattle.bench_line.specs.Steps.{lineDone}
 use Rattle.bench_line.proofs.Called.{long-alike}
-use Rattle.answer_lines.specs.Answers.{answerLine}
+use Rattle.frames.specs.Answers.{answerLine}
 use Rattle.fed.specs.Lines.{Cut, cut, after, answered, stood}
 use Rattle.fed.specs.Feed.{pieceAnswers}
 use Rattle.feeding_laws.proofs.Cuts.{cut-unended, cut-rest, cut-append, cut-onto, unended-take, ontoAll}

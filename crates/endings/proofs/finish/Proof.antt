@@ -1,7 +1,7 @@
 -- No byte is no line; without room nothing is written.
 use borrow.Author.Needs.{needs}
 use mathlib.Core.Path.{ap, _∙_}
-use Rattle.answer_lines.specs.Answers.{answerLine, placed}
+use Rattle.frames.specs.Answers.{answerLine, placed}
 use Rattle.bench_line.specs.Steps.{malformed}
 use Rattle.endings.proofs.Ends.{ending-none, ending-no-room, ending-some}
 use Rattle.endings.proofs.finish.Statement.{statement}

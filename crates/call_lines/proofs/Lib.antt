@@ -1,2 +1,0 @@
--- The laws of a call line at a place.
-pub mod Straight

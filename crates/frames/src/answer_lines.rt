@@ -1,0 +1,32 @@
+// The answer line, written where the caller has room for it.
+use digits::put_digits;
+use rules::Answer;
+ghost use mathlib.Core.Path.{_≡_};
+ghost use lib.ListN.{length};
+ghost use Rattle.frames.specs.Answers.{answerLine, placed};
+
+// Fills a line's 15 places.
+fn fill(line: &mut [u8], r: Answer)
+    requires { ⌜ length (now line) ≡ 15 ⌝ }
+    ensures { λ _. ⌜ now (line .exit) ≡ answerLine r ⌝ }
+{
+    put_digits(&mut line[0..2], r.status as u32);
+    put_digits(&mut line[2..10], r.value);
+    put_digits(&mut line[10..12], r.key as u32);
+    put_digits(&mut line[12..14], r.elected as u32);
+    line[14] = b'\n';
+}
+
+// Writes the answer line over the 15 bytes from `at` on; nothing where there are fewer.
+pub fn put_answer(out: &mut [u8], at: usize, r: Answer)
+    ensures { λ _. ⌜ now (out .exit) ≡ placed at (answerLine r) (now (out .entry)) ⌝ }
+{
+    if out.len() < 15 {
+        return;
+    }
+    if out.len() - 15 < at {
+        return;
+    }
+    let end = at + 15;
+    fill(&mut out[at..end], r);
+}
