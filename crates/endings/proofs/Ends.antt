@@ -9,8 +9,8 @@ use lib.ListN.{length}
 use borrow.Author.Tests.{le-leb, lt-leb, leb-true}
 use Rattle.frames.specs.Answers.{answerLine, placed}
 use Rattle.frames.proofs.Written.{answer-length}
-use Rattle.opening.specs.declared.Standing.{Standing}
-use Rattle.bench_line.specs.Steps.{malformed}
+use Rattle.bench_lines.specs.declared.opening.Standing.{Standing}
+use Rattle.bench_lines.specs.Steps.{malformed}
 use Rattle.endings.specs.Ending.{ending, endingLength}
 
 pub ending-none : (s : Standing) (rest out : List ℕ) → length rest ≡ 0 → (0 ≡ endingLength s rest (length out)) × (out ≡ placed 0 (ending s rest) out)

@@ -1,7 +1,7 @@
 // The end of a bench session's input.
-use bench_line::malformed_answer;
+use bench_lines::Standing;
+use bench_lines::malformed_answer;
 use frames::put_answer;
-use opening::Standing;
 ghost use mathlib.Core.Path.{_≡_};
 ghost use lib.ListN.{length};
 ghost use Rattle.frames.specs.Answers.{placed};

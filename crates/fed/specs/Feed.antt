@@ -7,8 +7,8 @@ use lib.ListN.{length, take, drop}
 use Rattle.rules.specs.declared.Table.{Table}
 use Rattle.rules.specs.Words.{isZero}
 use Rattle.frames.specs.Answers.{answerLine, placed}
-use Rattle.opening.specs.declared.Standing.{Standing}
-use Rattle.turns.specs.Places.{standing, turnAt}
+use Rattle.bench_lines.specs.declared.opening.Standing.{Standing}
+use Rattle.bench_lines.specs.Places.{standing, turnAt}
 use Rattle.fed.specs.declared.Fed.{Fed}
 use Rattle.fed.specs.Lines.{cut, answered, stood}
 

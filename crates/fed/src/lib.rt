@@ -1,5 +1,5 @@
 // How far the lines of a piece of the input have come.
-use opening::Standing;
+use bench_lines::Standing;
 use rules::Table;
 ghost use mathlib.Core.Path.{_≡_};
 ghost use Prim.Native.Nat.{_-_, _/_};

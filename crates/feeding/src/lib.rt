@@ -1,12 +1,12 @@
 // The ended lines of a piece of the input, answered one after the other.
-use asked_lines::asked_at;
+use bench_lines::Standing;
+use bench_lines::asked_at;
+use bench_lines::line_told;
 use fed::Fed;
 use fed::answers_left;
 use fed::fed_at;
 use first_fed::opened;
 use frames::put_answer;
-use line_calls::line_told;
-use opening::Standing;
 use rules::Table;
 use tables::front_of;
 use tables::table_of;

@@ -13,23 +13,23 @@ use Rattle.rules.specs.declared.Table.{Table}
 use Rattle.rules.specs.declared.Answer.{Answer}
 use Rattle.frames.specs.Answers.{answerLine, placed}
 use Rattle.frames.proofs.Written.{answer-length}
-use Rattle.opening.specs.declared.Standing.{Standing}
-use Rattle.turns.specs.declared.Turn.{Turn}
-use Rattle.asked_lines.specs.declared.Asked.{Asked}
+use Rattle.bench_lines.specs.declared.opening.Standing.{Standing}
+use Rattle.bench_lines.specs.declared.turns.Turn.{Turn}
+use Rattle.bench_lines.specs.declared.asked_lines.Asked.{Asked}
 use Rattle.fed.specs.declared.Fed.{Fed}
 use Rattle.rules.specs.Words.{isZero}
 use Rattle.rules.proofs.Bools.{and-left, and-right, not-intro}
-use Rattle.first_lines.proofs.Plain.{not-true}
+use Rattle.bench_lines.proofs.Plain.{not-true}
 use Rattle.rules.specs.Numbers.{storeSize}
 use Rattle.tables.specs.declared.fronts.Front.{Front}
 use Rattle.tables.specs.declared.fronts.FrontDone.{FrontDone}
 use Rattle.tables.specs.Fronts.{whole, frontOf, frontDone}
-use Rattle.bench_line.specs.declared.Heard.{Heard}
-use Rattle.bench_line.specs.Steps.{malformed, lineDone, heardDone}
+use Rattle.bench_lines.specs.declared.bench_line.Heard.{Heard}
+use Rattle.bench_lines.specs.Steps.{malformed, lineDone, heardDone}
 use Rattle.theorems.proofs.Kept.{store-kept}
 use Rattle.fed.specs.Lines.{after, answered, stood}
-use Rattle.asked_lines.specs.AskedAt.{askedAt}
-use Rattle.turns.specs.Places.{standing, turned, turnAt}
+use Rattle.bench_lines.specs.AskedAt.{askedAt}
+use Rattle.bench_lines.specs.Places.{standing, turned, turnAt}
 use Rattle.fed.specs.Feed.{fitting, taken, ahead, over, fedAt, laterTold, laterOut, opens, openedTold, openedOut, feedTold, pieceAnswers}
 use Rattle.feeding_laws.proofs.Turns.{Took, turn-took, turn-none, asked-turn}
 

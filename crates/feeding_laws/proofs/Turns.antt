@@ -14,15 +14,15 @@ use Rattle.lines.specs.declared.ends.Line.{Line}
 use Rattle.lines.specs.declared.ends.Line.the-variants.{Whole, TooLong, Unended, Nothing}
 use Rattle.lines.specs.Ends.{lineFeed, longest, lineIn, lineAt, part}
 use Rattle.rules.specs.declared.Table.{Table}
-use Rattle.opening.specs.declared.Standing.{Standing}
-use Rattle.turns.specs.declared.Turn.{Turn}
-use Rattle.asked_lines.specs.declared.Asked.{Asked}
-use Rattle.bench_line.specs.Steps.{malformed, tooLong, lineDone, heard, heardDone}
+use Rattle.bench_lines.specs.declared.opening.Standing.{Standing}
+use Rattle.bench_lines.specs.declared.turns.Turn.{Turn}
+use Rattle.bench_lines.specs.declared.asked_lines.Asked.{Asked}
+use Rattle.bench_lines.specs.Steps.{malformed, tooLong, lineDone, heard, heardDone}
 use Rattle.fed.specs.Lines.{cut}
-use Rattle.asked_lines.specs.AskedAt.{askedOf, askedAt}
-use Rattle.turns.specs.Places.{standing, turned, turnOf, turnAt}
+use Rattle.bench_lines.specs.AskedAt.{askedOf, askedAt}
+use Rattle.bench_lines.specs.Places.{standing, turned, turnOf, turnAt}
 use Rattle.feeding_laws.proofs.Cuts.{cut-ended, cut-unended}
-use Rattle.bench_line.proofs.Called.{later-done, too-long-done}
+use Rattle.bench_lines.proofs.Called.{later-done, too-long-done}
 
 -- r took a line
 pub record Took (s : Standing) (input : List ℕ) (at : ℕ) (r : Turn) : Type 0 where

@@ -7,9 +7,9 @@ use lib.ListN.{length}
 use borrow.Author.Tests.{le-leb, lt-leb, ne-eqb}
 use Rattle.rules.specs.declared.Table.{Table}
 use Rattle.frames.specs.Answers.{answerLine, placed}
-use Rattle.turns.specs.declared.Turn.{Turn}
+use Rattle.bench_lines.specs.declared.turns.Turn.{Turn}
 use Rattle.fed.specs.declared.Fed.{Fed}
-use Rattle.turns.specs.Places.{standing, turnAt}
+use Rattle.bench_lines.specs.Places.{standing, turnAt}
 use Rattle.fed.specs.Feed.{fedAt, opens, openedTold, openedOut}
 
 module _ (t : Table) (begun : Bool) (input old : List ℕ) (r : Fed) where

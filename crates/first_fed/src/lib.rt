@@ -1,9 +1,9 @@
 // The first line of a piece of the input, answered.
+use bench_lines::Standing;
+use bench_lines::first_turn;
 use fed::Fed;
 use fed::fed_at;
 use frames::put_answer;
-use opening::Standing;
-use turns::first_turn;
 ghost use mathlib.Core.Path.{_≡_};
 ghost use lib.ListN.{length};
 ghost use Rattle.fed.specs.Feed.{openedTold, openedOut};

@@ -9,7 +9,7 @@ use lib.Dec.{eqb, leb}
 use lib.ListN.{length, take, drop, getD, set, length-take, length-drop}
 use lib.Seq.{take-suc, take-all, take-take, take-add, drop-at, drop-cons, length-take-le, set-at, getD-append-add, getD-drop}
 use borrow.Author.Tests.{leb-true, leb-false}
-use Rattle.opening.specs.declared.Standing.{Standing}
+use Rattle.bench_lines.specs.declared.opening.Standing.{Standing}
 use Rattle.fed.specs.declared.Fed.{Fed}
 use Rattle.session.specs.declared.Held.{Held}
 use Rattle.fed.specs.Lines.{onto, cut, stood}

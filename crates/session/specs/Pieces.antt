@@ -2,7 +2,7 @@
 use Prim.Native.Nat.{ℕ, _*_}
 use mathlib.Core.List.{List}
 use lib.ListN.{length, drop}
-use Rattle.opening.specs.declared.Standing.{Standing}
+use Rattle.bench_lines.specs.declared.opening.Standing.{Standing}
 use Rattle.fed.specs.Lines.{stood}
 use Rattle.fed.specs.Feed.{answerLength, fitting, taken}
 use Rattle.session.specs.declared.Held.{Held}

@@ -3,8 +3,8 @@ use Prim.Native.Nat.{ℕ, suc}
 use mathlib.Core.List.{List, [], _∷_, _++_}
 use lib.ListN.{take}
 use Rattle.lines.specs.Ends.{longest}
-use Rattle.opening.specs.declared.Standing.{Standing}
-use Rattle.opening.specs.Start.{start}
+use Rattle.bench_lines.specs.declared.opening.Standing.{Standing}
+use Rattle.bench_lines.specs.Start.{start}
 use Rattle.endings.specs.Ending.{ending}
 use Rattle.fed.specs.Lines.{cut, answered, stood}
 

@@ -1,9 +1,9 @@
 // A bench session: a run over the input piece by piece.
 mod pieces;
 
+pub use bench_lines::Standing;
+pub use bench_lines::at_start;
 pub use endings::finish;
-pub use opening::Standing;
-pub use opening::at_start;
 pub use pieces::piece;
 
 // After a whole piece: how many bytes at the front of the buffer belong to a line that goes on in the next piece.

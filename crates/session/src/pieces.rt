@@ -1,7 +1,7 @@
 // A run over the input piece by piece.
 use crate::Held;
+use bench_lines::Standing;
 use feeding::feed;
-use opening::Standing;
 ghost use mathlib.Core.Path.{_≡_};
 ghost use Prim.Native.Nat.{_+_, _≤_, min};
 ghost use lib.ListN.{length, take, drop};

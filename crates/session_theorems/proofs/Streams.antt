@@ -10,10 +10,10 @@ use lib.Seq.{take-all, take-append-le, take-take, length-take-le}
 use borrow.Author.Tests.{leb-true, leb-false}
 use Rattle.rules.specs.Queues.{before}
 use Rattle.lines.specs.Ends.{lineFeed, longest}
-use Rattle.opening.specs.declared.Standing.{Standing}
-use Rattle.opening.specs.Start.{start}
-use Rattle.bench_line.specs.Steps.{lineDone}
-use Rattle.bench_line.proofs.Called.{long-alike}
+use Rattle.bench_lines.specs.declared.opening.Standing.{Standing}
+use Rattle.bench_lines.specs.Start.{start}
+use Rattle.bench_lines.specs.Steps.{lineDone}
+use Rattle.bench_lines.proofs.Called.{long-alike}
 use Rattle.frames.specs.Answers.{answerLine}
 use Rattle.fed.specs.Lines.{Cut, cut, after, answered, stood}
 use Rattle.fed.specs.Feed.{pieceAnswers}

@@ -2,7 +2,7 @@
 use borrow.Author.Needs.{needs}
 use mathlib.Core.Path.{ap, _∙_}
 use Rattle.frames.specs.Answers.{answerLine, placed}
-use Rattle.bench_line.specs.Steps.{malformed}
+use Rattle.bench_lines.specs.Steps.{malformed}
 use Rattle.endings.proofs.Ends.{ending-none, ending-no-room, ending-some}
 use Rattle.endings.proofs.finish.Statement.{statement}
 use Rattle.endings.proofs.finish.Tie as tie

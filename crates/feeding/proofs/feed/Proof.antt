@@ -2,7 +2,7 @@
 use borrow.Author.Needs.{needs}
 use native.Mathlib.Omega.{arith}
 use borrow.Author.Tests.{not-false}
-use Rattle.first_lines.proofs.Plain.{not-true}
+use Rattle.bench_lines.proofs.Plain.{not-true}
 use Rattle.feeding_laws.proofs.Feeding.{opened-going, begun-going, opened-none, going-told, going-written, through-told, through-written}
 use Rattle.feeding.proofs.feed.Statement.{statement}
 use Rattle.feeding.proofs.feed.Tie as tie

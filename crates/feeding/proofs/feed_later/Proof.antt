@@ -9,7 +9,7 @@ use Rattle.tables.specs.Fronts.{whole}
 use Rattle.fed.specs.Feed.{fedAt}
 use Rattle.feeding_laws.proofs.Feeding.{GoingFrom, going-from, whole-again, going-lent, still-long, later-told, later-written, ahead-no-room, asked-none}
 use Rattle.rules.specs.Validity.{valid}
-use Rattle.line_calls.proofs.Told.{heard-parts, still-known}
+use Rattle.bench_lines.proofs.Told.{heard-parts, still-known}
 use Rattle.feeding.proofs.feed_later.Statement.{statement}
 use Rattle.feeding.proofs.feed_later.Tie as tie
 

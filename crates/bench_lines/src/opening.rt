@@ -1,0 +1,46 @@
+// How a session begins: where it stands before the first line, and what a refused first line leaves.
+use rules::Answer;
+use rules::Done;
+use rules::Table;
+use tables::fresh;
+ghost use mathlib.Core.Path.{_≡_};
+ghost use Rattle.rules.specs.Fresh.{zeroTable};
+ghost use Rattle.bench_lines.specs.Start.{start, firstRefused};
+
+// Where a session stands: its table, the table of zeros at the start, and whether the first line has come.
+pub struct Standing {
+    pub table: Table,
+    pub begun: bool,
+}
+
+// The table of zeros: that of a configuration without a task.
+fn zeros() -> Table
+    ensures { λ r. ⌜ r ≡ zeroTable ⌝ }
+{
+    let d = fresh(0, 0, 0, b"", b"");
+    d.table
+}
+
+// Before the first line.
+pub fn at_start() -> Standing
+    ensures { λ r. ⌜ r ≡ start ⌝ }
+{
+    Standing {
+        table: zeros(),
+        begun: false,
+    }
+}
+
+pub(crate) fn first_refused(status: u8) -> Done
+    ensures { λ r. ⌜ r ≡ firstRefused status ⌝ }
+{
+    Done {
+        table: zeros(),
+        answer: Answer {
+            status: status,
+            value: 0,
+            key: 0,
+            elected: 255,
+        },
+    }
+}

@@ -1,3 +1,0 @@
--- Laws for this crate's proofs and for its callers'.
-pub mod Plain
-pub mod Configuration

@@ -1,2 +1,0 @@
--- What document 01 says of the first line of a session.
-pub mod First

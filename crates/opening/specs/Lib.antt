@@ -1,2 +1,0 @@
--- What document 01 says of how a session begins.
-pub mod Start
