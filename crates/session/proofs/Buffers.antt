@@ -10,10 +10,10 @@ use lib.ListN.{length, take, drop, getD, set, length-take, length-drop}
 use lib.Seq.{take-suc, take-all, take-take, take-add, drop-at, drop-cons, length-take-le, set-at, getD-append-add, getD-drop}
 use borrow.Author.Tests.{leb-true, leb-false}
 use Rattle.bench_lines.specs.declared.opening.Standing.{Standing}
-use Rattle.fed.specs.declared.Fed.{Fed}
-use Rattle.session.specs.declared.Held.{Held}
-use Rattle.fed.specs.Lines.{onto, cut, stood}
-use Rattle.fed.specs.Feed.{fitting, taken, over, feedTold, pieceAnswers}
+use Rattle.session.specs.declared.fed.Fed.{Fed}
+use Rattle.session.specs.declared.session.Held.{Held}
+use Rattle.session.specs.Lines.{onto, cut, stood}
+use Rattle.session.specs.Feed.{fitting, taken, over, feedTold, pieceAnswers}
 use Rattle.session.specs.Run.{kept}
 use Rattle.session.specs.Pieces.{pieceLeft, pieceTold}
 

@@ -5,8 +5,8 @@ use lib.ListN.{take}
 use Rattle.lines.specs.Ends.{longest}
 use Rattle.bench_lines.specs.declared.opening.Standing.{Standing}
 use Rattle.bench_lines.specs.Start.{start}
-use Rattle.endings.specs.Ending.{ending}
-use Rattle.fed.specs.Lines.{cut, answered, stood}
+use Rattle.session.specs.Ending.{ending}
+use Rattle.session.specs.Lines.{cut, answered, stood}
 
 unfoldable pub runFrom : Standing → List ℕ → List ℕ
 runFrom s input = answered s (cut input .lines) ++ ending (stood s (cut input .lines)) (cut input .rest)

@@ -1,14 +1,14 @@
-// A bench session: a run over the input piece by piece.
+// Laws of the lines of a piece of the input: cut from bytes, taken one by one, and answered behind each other. There is no code here.
+// No code: theorems of a bench session, that a run over parts of the input writes the same as the run over the whole.
+mod endings;
+mod fed;
+mod feeding;
+mod first_fed;
 mod pieces;
+mod session;
 
 pub use bench_lines::Standing;
 pub use bench_lines::at_start;
 pub use endings::finish;
 pub use pieces::piece;
-
-// After a whole piece: how many bytes at the front of the buffer belong to a line that goes on in the next piece.
-pub struct Held {
-    pub standing: Standing,
-    pub held: usize,
-    pub written: usize,
-}
+pub use session::Held;

@@ -1,11 +1,11 @@
 // A run over the input piece by piece.
-use crate::Held;
+use crate::feeding::feed;
+use crate::session::Held;
 use bench_lines::Standing;
-use feeding::feed;
 ghost use mathlib.Core.Path.{_≡_};
 ghost use Prim.Native.Nat.{_+_, _≤_, min};
 ghost use lib.ListN.{length, take, drop};
-ghost use Rattle.fed.specs.Feed.{pieceAnswers, over};
+ghost use Rattle.session.specs.Feed.{pieceAnswers, over};
 ghost use Rattle.session.specs.Pieces.{pieceTold, pieceLeft};
 
 fn lesser(x: usize, y: usize) -> usize

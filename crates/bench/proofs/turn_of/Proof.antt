@@ -1,6 +1,6 @@
 -- What is written fits the output, and what is held is at most a line that is too long by one byte.
 use borrow.Author.Needs.{needs}
-use Rattle.endings.proofs.Ends.{ending-within}
+use Rattle.session.proofs.Ends.{ending-within}
 use Rattle.session.proofs.Buffers.{held-small, written-within}
 use Rattle.bench.proofs.turn_of.Statement.{statement}
 use Rattle.bench.proofs.turn_of.Tie as tie

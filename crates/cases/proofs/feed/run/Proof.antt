@@ -3,7 +3,7 @@ use native.Mathlib.Omega.{arith}
 use Prim.Native.Nat.{_≤_, _-_}
 use mathlib.Core.Path.{_≡_}
 use lib.ListN.{length}
-use Rattle.endings.proofs.Ends.{ending-within}
+use Rattle.session.proofs.Ends.{ending-within}
 use Rattle.cases.proofs.feed.run.Statement.{statement}
 use Rattle.cases.proofs.feed.run.Tie as tie
 

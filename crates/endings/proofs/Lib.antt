@@ -1,2 +1,0 @@
--- Laws for this crate's proofs and for its callers'.
-pub mod Ends

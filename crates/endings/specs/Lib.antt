@@ -1,2 +1,0 @@
--- What document 01 says of the end of the bench's input.
-pub mod Ending

@@ -1,0 +1,43 @@
+-- Laws of room for an answer to every byte: it is room for all lines.
+use Prim.Native.Nat.{ℕ, suc, _+_, _*_, _/_, _≤_}
+use mathlib.Core.Path.{_≡_, refl, ap}
+use mathlib.Core.Bool.{Bool, true, false}
+use mathlib.Core.List.{List, [], _∷_}
+use native.Mathlib.Omega.{arith}
+use lib.Dec.{eqb}
+use lib.ListN.{length, drop}
+use lib.Seq.{take-all}
+use Rattle.session.specs.Lines.{onto, cut}
+use Rattle.session.specs.Feed.{fitting, taken}
+use Rattle.session.specs.Run.{kept}
+use Rattle.session.specs.Pieces.{pieceLeft}
+use Rattle.session.proofs.Buffers.{cut-fits}
+
+cut-behind : (bs : List ℕ) → drop (taken (cut bs .lines)) bs ≡ cut bs .rest
+unfolding cut taken
+cut-behind [] = refl
+cut-behind (b ∷ bs) = go (eqb b 10) refl (cut-behind bs)
+  where
+    more : (lines : List (List ℕ)) (rest : List ℕ) → drop (taken lines) bs ≡ rest → drop (taken (onto b lines rest .lines)) (b ∷ bs) ≡ onto b lines rest .rest
+    more [] rest h = ap (λ xs. b ∷ xs) h
+    more (line ∷ lines) rest h =
+        let one : suc (suc (length line)) + taken lines ≡ suc (suc (length line) + taken lines) = omega arith in
+        rw one h
+
+    go : (x : Bool) → eqb b 10 ≡ x → drop (taken (cut bs .lines)) bs ≡ cut bs .rest → drop (taken (cut (b ∷ bs) .lines)) (b ∷ bs) ≡ cut (b ∷ bs) .rest
+    go true e ih = let one : suc 0 + taken (cut bs .lines) ≡ suc (taken (cut bs .lines)) = omega arith in rw (e, one) ih
+    go false e ih = rw e (more (cut bs .lines) (cut bs .rest) ih)
+
+lines-few : (lines : List (List ℕ)) → length lines ≤ taken lines
+unfolding taken
+lines-few [] = omega arith
+lines-few (line ∷ lines) = let ih = lines-few lines in omega arith
+
+module _ (room : ℕ) (input : List ℕ) (enough : 15 * length input ≤ room) where
+  pub fitting-all : fitting room input ≡ cut input .lines
+  unfolding fitting
+  fitting-all = take-all (room / 15) (cut input .lines) (let few = lines-few (cut input .lines) in let fits = cut-fits input in omega arith)
+
+  pub left-all : pieceLeft room input ≡ kept (cut input .rest)
+  unfolding pieceLeft
+  left-all = rw (fitting-all, cut-behind input)

@@ -1,0 +1,114 @@
+-- A run over parts of the input, however the input is cut, writes the same bytes as the run over the whole.
+use Prim.Native.Nat.{ℕ, suc, _*_, _≤_, _<_}
+use mathlib.Core.Path.{_≡_, refl, sym, _∙_}
+use mathlib.Core.Bool.{Bool, true, false}
+use mathlib.Core.List.{List, [], _∷_, _++_, append-assoc, append-nil}
+use native.Mathlib.Omega.{arith}
+use lib.Dec.{leb}
+use lib.ListN.{length, take, length-append}
+use lib.Seq.{take-all, take-append-le, take-take, length-take-le}
+use borrow.Author.Tests.{leb-true, leb-false}
+use Rattle.rules.specs.Queues.{before}
+use Rattle.lines.specs.Ends.{lineFeed, longest}
+use Rattle.bench_lines.specs.declared.opening.Standing.{Standing}
+use Rattle.bench_lines.specs.Start.{start}
+use Rattle.bench_lines.specs.Steps.{lineDone}
+use Rattle.bench_lines.proofs.Called.{long-alike}
+use Rattle.frames.specs.Answers.{answerLine}
+use Rattle.session.specs.Lines.{Cut, cut, after, answered, stood}
+use Rattle.session.specs.Feed.{pieceAnswers}
+use Rattle.session.proofs.Cuts.{cut-unended, cut-rest, cut-append, cut-onto, unended-take, ontoAll}
+use Rattle.session.specs.Ending.{ending}
+use Rattle.session.specs.Run.{runFrom, run, kept, joined, runParts}
+use Rattle.session.specs.Pieces.{pieceLeft, pieceTold}
+use Rattle.session.proofs.Rooms.{fitting-all, left-all}
+
+-- ---- lines behind lines
+
+pub answered-append : (s : Standing) (ls ms : List (List ℕ)) → answered s (ls ++ ms) ≡ answered s ls ++ answered (stood s ls) ms
+unfolding answered stood
+answered-append s [] ms = refl
+answered-append s (l ∷ ls) ms = rw (answered-append (after s l) ls ms) (sym (append-assoc (answerLine (lineDone s l .answer)) (answered (after s l) ls) _))
+
+pub stood-append : (s : Standing) (ls ms : List (List ℕ)) → stood s (ls ++ ms) ≡ stood (stood s ls) ms
+unfolding stood
+stood-append s [] ms = refl
+stood-append s (l ∷ ls) ms = stood-append (after s l) ls ms
+
+-- ---- parts
+
+-- two ways to cut that write the same and leave the same to be kept
+pub record Same (s : Standing) (x y : Cut) : Type 0 where
+  pub written : answered s (x .lines) ≡ answered s (y .lines)
+  pub standing : stood s (x .lines) ≡ stood s (y .lines)
+  pub left : kept (x .rest) ≡ kept (y .rest)
+
+-- the bytes that are kept of an unended line serve for all of them
+module _ (s : Standing) (bs : List ℕ) (unended : before lineFeed bs ≡ length bs) (ys : List ℕ) where
+  long-same : longest < length bs → (lines : List (List ℕ)) (rest : List ℕ) → Same s (ontoAll (kept bs) lines rest) (ontoAll bs lines rest)
+  unfolding kept answered stood
+  long-same h [] rest =
+      let some : suc longest ≤ length bs = h in
+      let some-kept : suc longest ≤ length (take (suc longest) bs) = rw (length-take-le (suc longest) bs some) (omega arith) in
+      record {
+        written = refl;
+        standing = refl;
+        left =
+            take-append-le (suc longest) (take (suc longest) bs) rest some-kept
+            ∙ take-take (suc longest) (suc longest) bs (omega arith)
+            ∙ sym (take-append-le (suc longest) bs rest some);
+      }
+  long-same h (line ∷ lines) rest =
+      let n = length-take-le (suc longest) bs h in
+      let one : longest < length (take (suc longest) bs ++ line) = rw (length-append, n) (omega arith) in
+      let two : longest < length (bs ++ line) = rw length-append (omega arith) in
+      let same = long-alike s (take (suc longest) bs ++ line) (bs ++ line) one two in
+      record { written = rw same; standing = rw same; left = refl }
+
+  pub kept-same : Same s (cut (kept bs ++ ys)) (cut (bs ++ ys))
+  unfolding kept
+  kept-same = go (leb (length bs) longest) refl
+    where
+      go : (x : Bool) → leb (length bs) longest ≡ x → Same s (cut (kept bs ++ ys)) (cut (bs ++ ys))
+      go true e =
+          let all : take (suc longest) bs ≡ bs = take-all (suc longest) bs (omega (arith, leb-true (length bs) longest e)) in
+          rw all (record { written = refl; standing = refl; left = refl })
+      go false e =
+          rw (cut-onto (take (suc longest) bs) ys (unended-take (suc longest) bs unended), cut-onto bs ys unended)
+          (long-same (leb-false (length bs) longest e) (cut ys .lines) (cut ys .rest))
+
+ending-kept : (s : Standing) (bs : List ℕ) → ending s (kept bs) ≡ ending s bs
+unfolding ending kept
+ending-kept s [] = refl
+ending-kept s (b ∷ bs) = refl
+
+-- bytes behind bytes: what the first write, and then the run from what they leave
+pub run-append : (s : Standing) (xs ys : List ℕ) → runFrom s (xs ++ ys) ≡ answered s (cut xs .lines) ++ runFrom (stood s (cut xs .lines)) (cut xs .rest ++ ys)
+unfolding runFrom
+run-append s xs ys =
+    rw (cut-append ys xs, answered-append s (cut xs .lines) (cut (cut xs .rest ++ ys) .lines), stood-append s (cut xs .lines) (cut (cut xs .rest ++ ys) .lines))
+    (append-assoc (answered s (cut xs .lines)) _ _)
+
+pub parts-from : (parts : List (List ℕ)) (s : Standing) (bs : List ℕ) → before lineFeed bs ≡ length bs → runParts s (kept bs) parts ≡ runFrom s (bs ++ joined parts)
+unfolding runParts runFrom answered stood
+parts-from [] s bs h = ending-kept s bs ∙ alone
+  where
+    alone : ending s bs ≡ runFrom s (bs ++ [])
+    alone = rw (append-nil, cut-unended bs h)
+parts-from (part ∷ parts) s bs h =
+    let same = kept-same s bs h part in
+    let rest = parts-from parts (stood s (cut (bs ++ part) .lines)) (cut (bs ++ part) .rest) (cut-rest (bs ++ part)) in
+    rw (same .written, same .standing, same .left, rest, ← append-assoc bs part (joined parts))
+    (sym (run-append s (bs ++ part) (joined parts)))
+
+-- the theorem
+pub parts-agree : (parts : List (List ℕ)) → runParts start [] parts ≡ run (joined parts)
+unfolding before kept
+parts-agree parts = parts-from parts start [] refl
+
+-- one turn of the streaming program, with room for an answer to every byte, is one part of the run
+pub piece-part : (s : Standing) (room : ℕ) (held part : List ℕ) (parts : List (List ℕ)) → 15 * length (held ++ part) ≤ room
+    → runParts s held (part ∷ parts)
+    ≡ pieceAnswers s room (held ++ part) ++ runParts (pieceTold s room (held ++ part) .standing) (pieceLeft room (held ++ part)) parts
+unfolding runParts pieceAnswers pieceTold
+piece-part s room held part parts h = rw (fitting-all room (held ++ part) h, left-all room (held ++ part) h)

@@ -1,3 +1,0 @@
--- What follows of a bench session's definitions.
-pub mod Rooms
-pub mod Streams
