@@ -3,8 +3,8 @@ use borrow.Author.Needs.{needs}
 use Prim.Native.Nat.{_-_}
 use mathlib.Core.Path.{_≡_}
 use lib.ListN.{length}
-use Rattle.trial_list.proofs.words.number_of.Statement.{statement}
-use Rattle.trial_list.proofs.words.number_of.Tie as tie
+use Rattle.trials.proofs.words.number_of.Statement.{statement}
+use Rattle.trials.proofs.words.number_of.Tie as tie
 
 abbrev Inv-loop : tie.InvT-loop
 Inv-loop word n₀ i₀ i-end n i = i-end ≡ length word

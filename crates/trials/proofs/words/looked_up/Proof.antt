@@ -2,8 +2,8 @@
 use borrow.Author.Needs.{needs}
 use Prim.Native.Nat.{_-_}
 use lib.ListN.{length}
-use Rattle.trial_list.proofs.words.looked_up.Statement.{statement}
-use Rattle.trial_list.proofs.words.looked_up.Tie as tie
+use Rattle.trials.proofs.words.looked_up.Statement.{statement}
+use Rattle.trials.proofs.words.looked_up.Tie as tie
 
 abbrev Inv-loop : tie.InvT-loop
 Inv-loop word names n₀ start₀ n start = Unit

@@ -1,8 +1,8 @@
 -- Safety alone: a number has four bytes at most, and each is put at a place of the block.
 use borrow.Author.Needs.{needs}
 use Prim.Native.Nat.{_-_}
-use Rattle.trial_list.proofs.damage.spoiled.Statement.{statement}
-use Rattle.trial_list.proofs.damage.spoiled.Tie as tie
+use Rattle.trials.proofs.damage.spoiled.Statement.{statement}
+use Rattle.trials.proofs.damage.spoiled.Tie as tie
 
 abbrev Inv-loop : tie.InvT-loop
 Inv-loop field entry n table₀ at rest₀ i₀ i-end table rest i = Unit

@@ -3,8 +3,8 @@ use borrow.Author.Needs.{needs}
 use Prim.Native.Nat.{_≤_, _-_}
 use lib.ListN.{length}
 use mathlib.Core.Logic.{⊎-elim}
-use Rattle.trial_list.proofs.rows.row_of.Statement.{statement}
-use Rattle.trial_list.proofs.rows.row_of.Tie as tie
+use Rattle.trials.proofs.rows.row_of.Statement.{statement}
+use Rattle.trials.proofs.rows.row_of.Tie as tie
 
 abbrev Inv-loop : tie.InvT-loop
 Inv-loop text r₀ place₀ start₀ r place start = place ≤ start

@@ -1,5 +1,5 @@
 // The words of a line: numbers, and names that stand for numbers.
-use super::say;
+use crate::say;
 use bytes::scan::find;
 use check::same;
 use std::num::wrapping_add_u32;

@@ -2,8 +2,8 @@
 use borrow.Author.Needs.{needs}
 use Prim.Native.Nat.{_-_}
 use lib.ListN.{length}
-use Rattle.trial_list.proofs.script.play.Statement.{statement}
-use Rattle.trial_list.proofs.script.play.Tie as tie
+use Rattle.trials.proofs.script.play.Statement.{statement}
+use Rattle.trials.proofs.script.play.Tie as tie
 
 abbrev Inv-loop : tie.InvT-loop
 Inv-loop text t₀ start₀ t start = Unit

@@ -1,8 +1,8 @@
 // The list of trials, line by line.
 use super::blocks::Block;
 use super::rows::row_of;
-use super::say;
 use super::trial::trial;
+use crate::say;
 use bytes::scan::find;
 use layout::SIZE;
 use tables::byte_at;
@@ -38,7 +38,7 @@ fn played(text: &[u8], t: Block) -> Block {
 }
 
 // Plays the list, and returns how many bytes it went through: all of them. What is written is not in a contract's reach; it is compared.
-pub fn play(text: &[u8]) -> usize
+pub(crate) fn play(text: &[u8]) -> usize
     ensures { λ r. ⌜ r ≡ length (now (text .entry)) ⌝ }
 {
     let mut t = [0; SIZE];

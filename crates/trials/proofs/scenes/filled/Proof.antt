@@ -1,8 +1,8 @@
 -- Safety alone: the element sent in a turn is below 164.
 use borrow.Author.Needs.{needs}
 use Prim.Native.Nat.{_-_}
-use Rattle.trial_list.proofs.scenes.filled.Statement.{statement}
-use Rattle.trial_list.proofs.scenes.filled.Tie as tie
+use Rattle.trials.proofs.scenes.filled.Statement.{statement}
+use Rattle.trials.proofs.scenes.filled.Tie as tie
 
 abbrev Inv-loop : tie.InvT-loop
 Inv-loop t₀ i₀ t i = Unit
