@@ -14,8 +14,8 @@ use Rattle.lines.specs.Ends.{longest}
 use Rattle.frames.specs.Calls.{callLength, callIn}
 use Rattle.bench_lines.specs.First.{plain, firstReasons, firstLine}
 use Rattle.bench_lines.proofs.Plain.{not-true, not-false}
-use Rattle.bench_lines.specs.declared.opening.Standing.{Standing}
-use Rattle.bench_lines.specs.declared.bench_line.Heard.{Heard}
+use Rattle.bench_lines.specs.declared.start.Standing.{Standing}
+use Rattle.bench_lines.specs.declared.later.Heard.{Heard}
 use Rattle.bench_lines.specs.Steps.{callLine, tooLong, lineDone, asking, nothingHeard, heard, heardDone}
 
 -- ---- what a line asks for

@@ -5,7 +5,7 @@ use mathlib.Core.List.{List}
 use Rattle.lines.specs.declared.ends.Line.{Line}
 use Rattle.lines.specs.declared.ends.Line.the-variants.{Whole, TooLong, Unended, Nothing}
 use Rattle.lines.specs.Ends.{lineAt, part}
-use Rattle.bench_lines.specs.declared.bench_line.Heard.{Heard}
+use Rattle.bench_lines.specs.declared.later.Heard.{Heard}
 use Rattle.bench_lines.specs.Steps.{nothingHeard, heard}
 use Rattle.bench_lines.specs.AskedAt.{asked, askedOf, askedAt}
 

@@ -6,7 +6,7 @@ use Rattle.lines.specs.declared.ends.Line.{Line}
 use Rattle.lines.specs.declared.ends.Line.the-variants.{Whole, TooLong, Unended, Nothing}
 use Rattle.lines.specs.Ends.{lineAt, part}
 use Rattle.rules.specs.declared.Done.{Done}
-use Rattle.bench_lines.specs.declared.opening.Standing.{Standing}
+use Rattle.bench_lines.specs.declared.start.Standing.{Standing}
 use Rattle.bench_lines.specs.Steps.{malformed, tooLong, lineDone}
 use Rattle.bench_lines.specs.Places.{turned, turnOf, turnAt}
 

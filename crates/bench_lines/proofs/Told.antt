@@ -6,11 +6,11 @@ use mathlib.Core.List.{List}
 use Rattle.rules.specs.declared.Table.{Table}
 use Rattle.rules.specs.Validity.{valid}
 use Rattle.theorems.proofs.Kept.{valid-same}
-use Rattle.tables.specs.declared.fronts.FrontDone.{FrontDone}
+use Rattle.tables.specs.declared.front.FrontDone.{FrontDone}
 use Rattle.tables.specs.Fronts.{whole, frontDone}
 use Rattle.calls.proofs.Cases.{in-parts}
 use Rattle.calls.proofs.Told.{told-is}
-use Rattle.bench_lines.specs.declared.bench_line.Heard.{Heard}
+use Rattle.bench_lines.specs.declared.later.Heard.{Heard}
 use Rattle.bench_lines.specs.Steps.{malformed, heardDone}
 use Rattle.bench_lines.specs.Told.{heardTold}
 

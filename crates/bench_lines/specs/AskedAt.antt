@@ -4,9 +4,9 @@ use mathlib.Core.List.{List}
 use Rattle.lines.specs.declared.ends.Line.{Line}
 use Rattle.lines.specs.declared.ends.Line.the-variants.{Whole, TooLong, Unended, Nothing}
 use Rattle.lines.specs.Ends.{lineAt, part}
-use Rattle.bench_lines.specs.declared.bench_line.Heard.{Heard}
+use Rattle.bench_lines.specs.declared.later.Heard.{Heard}
 use Rattle.bench_lines.specs.Steps.{nothingHeard, heard}
-use Rattle.bench_lines.specs.declared.asked_lines.Asked.{Asked}
+use Rattle.bench_lines.specs.declared.later.Asked.{Asked}
 
 abbrev pub asked : Heard → ℕ → Asked
 asked h next = record { heard = h; next = next }

@@ -7,9 +7,9 @@ use Rattle.lines.specs.declared.ends.Line.the-variants.{Whole, TooLong, Unended
 use Rattle.lines.specs.Ends.{lineAt, part}
 use Rattle.rules.specs.declared.Table.{Table}
 use Rattle.rules.specs.declared.Done.{Done}
-use Rattle.bench_lines.specs.declared.opening.Standing.{Standing}
+use Rattle.bench_lines.specs.declared.start.Standing.{Standing}
 use Rattle.bench_lines.specs.Steps.{malformed, tooLong, lineDone}
-use Rattle.bench_lines.specs.declared.turns.Turn.{Turn}
+use Rattle.bench_lines.specs.declared.first.Turn.{Turn}
 
 abbrev pub standing : Table → Bool → Standing
 standing t begun = record { table = t; begun = begun }

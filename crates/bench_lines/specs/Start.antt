@@ -4,7 +4,7 @@ use mathlib.Core.Bool.{false}
 use Rattle.rules.specs.declared.Done.{Done}
 use Rattle.rules.specs.Numbers.{nobody}
 use Rattle.rules.specs.Fresh.{zeroTable}
-use Rattle.bench_lines.specs.declared.opening.Standing.{Standing}
+use Rattle.bench_lines.specs.declared.start.Standing.{Standing}
 
 -- before the first line
 abbrev pub start : Standing

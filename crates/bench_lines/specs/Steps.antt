@@ -12,10 +12,10 @@ use Rattle.rules.specs.Numbers.{nobody}
 use Rattle.rules.specs.Words.{isZero}
 use Rattle.rules.specs.Step.{step}
 use Rattle.frames.specs.Calls.{callLength, callIn}
-use Rattle.bench_lines.specs.declared.opening.Standing.{Standing}
+use Rattle.bench_lines.specs.declared.start.Standing.{Standing}
 use Rattle.bench_lines.specs.Start.{firstRefused}
 use Rattle.bench_lines.specs.First.{plain, firstLine}
-use Rattle.bench_lines.specs.declared.bench_line.Heard.{Heard}
+use Rattle.bench_lines.specs.declared.later.Heard.{Heard}
 
 -- ---- a call line
 

@@ -3,7 +3,7 @@ use mathlib.Core.Bool.{Bool, cond}
 use Rattle.rules.specs.declared.Table.{Table}
 use Rattle.rules.specs.declared.Done.{Done}
 use Rattle.calls.specs.Told.{stepTold}
-use Rattle.bench_lines.specs.declared.bench_line.Heard.{Heard}
+use Rattle.bench_lines.specs.declared.later.Heard.{Heard}
 use Rattle.bench_lines.specs.Steps.{malformed}
 
 unfoldable pub heardTold : Bool → Table → Heard → Done

@@ -1,19 +1,14 @@
-// opening, first_lines, bench_line, line_calls, turns, asked_lines.
-mod asked_lines;
-mod asking;
-mod bench_line;
-mod first_lines;
-mod line_calls;
-mod malformed;
-mod opening;
-mod turns;
+// The lines of a bench session: what stands before the first, what the first does, and what a later one asks for and does.
+mod first;
+mod later;
+mod start;
 
-pub use asked_lines::Asked;
-pub use asked_lines::asked_at;
-pub use bench_line::Heard;
-pub use line_calls::line_told;
-pub use malformed::malformed_answer;
-pub use opening::Standing;
-pub use opening::at_start;
-pub use turns::Turn;
-pub use turns::first_turn;
+pub use first::Turn;
+pub use first::first_turn;
+pub use later::Asked;
+pub use later::Heard;
+pub use later::asked_at;
+pub use later::line_told;
+pub use start::Standing;
+pub use start::at_start;
+pub use start::malformed_answer;

@@ -1,4 +1,4 @@
-// block_fresh, block_call, block_query.
+// The three functions for C, on a block of bytes that the firmware lends: make fresh, one call, one query.
 mod call;
 mod fresh;
 mod query;

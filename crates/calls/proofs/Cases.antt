@@ -11,8 +11,8 @@ use Rattle.rules.specs.declared.Table.{Table}
 use Rattle.rules.specs.declared.Call.{Call}
 use Rattle.rules.specs.declared.Done.{Done}
 use Rattle.rules.specs.Numbers.{taskRoom, nobody, ENTER, SEND, RETRIEVE, TICK}
-use Rattle.tables.specs.declared.fronts.Front.{Front}
-use Rattle.tables.specs.declared.fronts.FrontDone.{FrontDone}
+use Rattle.tables.specs.declared.front.Front.{Front}
+use Rattle.tables.specs.declared.front.FrontDone.{FrontDone}
 use Rattle.tables.specs.Fronts.{whole, frontDone, storeless}
 use Rattle.tasks.specs.Effects.{target}
 use Rattle.calls.specs.TaskMade.{keepsState, stateKept, stateChanged, taskMadeAt, taskMade}

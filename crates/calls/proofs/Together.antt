@@ -11,8 +11,8 @@ use Rattle.rules.specs.Words.{isZero}
 use Rattle.rules.specs.Refusals.{refusal}
 use Rattle.rules.specs.Step.{step}
 use Rattle.rules.proofs.Effects.{contents-kept}
-use Rattle.tables.specs.declared.fronts.Front.{Front}
-use Rattle.tables.specs.declared.fronts.FrontDone.{FrontDone}
+use Rattle.tables.specs.declared.front.Front.{Front}
+use Rattle.tables.specs.declared.front.FrontDone.{FrontDone}
 use Rattle.tables.specs.Fronts.{whole, frontOf, frontDone}
 
 -- only SEND and RETRIEVE change the store

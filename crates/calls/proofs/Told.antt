@@ -15,7 +15,7 @@ use Rattle.rules.specs.Validity.{valid}
 use Rattle.rules.specs.Refusals.{refusal}
 use Rattle.rules.specs.Step.{step}
 use Rattle.refusals.proofs.Refused.{refusal-by}
-use Rattle.tables.specs.declared.fronts.FrontDone.{FrontDone}
+use Rattle.tables.specs.declared.front.FrontDone.{FrontDone}
 use Rattle.tables.specs.Fronts.{frontDone}
 use Rattle.calls.specs.Told.{refusalTold, stepTold}
 use Rattle.calls.proofs.Done.{task-step, region-step, send-step, retrieve-step, timer-step, tick-step}

@@ -1,10 +1,9 @@
-// digits, fields, written_digits.
-mod digits;
-mod fields;
-mod written_digits;
+// Upper-case hexadecimal digits, read and written.
+mod read;
+mod write;
 
-pub use digits::all_digits;
-pub use digits::pair_of;
-pub use fields::byte_at;
-pub use fields::word_at;
-pub use written_digits::put_digits;
+pub use read::all_digits;
+pub use read::byte_at;
+pub use read::pair_of;
+pub use read::word_at;
+pub use write::put_digits;

@@ -2,13 +2,12 @@
 // one that the rules give.
 mod by_value;
 mod queries;
-mod queue_queries;
-mod replies;
+mod reply;
 
 pub use by_value::call;
 pub use queries::arrived;
+pub use queries::empty;
+pub use queries::full;
 pub use queries::priority;
 pub use queries::state;
-pub use queue_queries::empty;
-pub use queue_queries::full;
 pub use tables::fresh;

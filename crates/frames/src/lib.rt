@@ -1,9 +1,7 @@
-// call_fields, frames, answer_lines, call_lines.
-mod answer_lines;
-mod call_fields;
-mod call_lines;
-mod frames;
+// A line's frame: the call in a call line, and the answer line.
+mod answer;
+mod call;
 
-pub use answer_lines::put_answer;
-pub use call_lines::call_line_at;
-pub use frames::call_of;
+pub use answer::put_answer;
+pub use call::call_line_at;
+pub use call::call_of;

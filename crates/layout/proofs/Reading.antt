@@ -7,7 +7,7 @@ use lib.Dec.{leb}
 use lib.ListN.{getD, length, replicate, length-replicate}
 use Rattle.rules.specs.declared.Timer.{Timer}
 use Rattle.rules.specs.Numbers.{taskRoom, regionRoom, queueRoom, storeSize}
-use Rattle.tables.specs.declared.fronts.Front.{Front}
+use Rattle.tables.specs.declared.front.Front.{Front}
 use Rattle.tables.specs.Fronts.{whole, frontOf}
 use Rattle.packing.specs.Bytes.{taken}
 use Rattle.packing.specs.Timers.{timersTaken}

@@ -10,7 +10,7 @@ use lib.Seq.{drop-at, drop-drop, length-take-le}
 use borrow.Author.Tests.{leb-true}
 use Rattle.rules.specs.Numbers.{storeSize}
 use Rattle.rules.specs.Words.{every}
-use Rattle.tables.specs.declared.fronts.Front.{Front}
+use Rattle.tables.specs.declared.front.Front.{Front}
 use Rattle.tables.specs.Fronts.{whole}
 use Rattle.packing.specs.Bytes.{spread, over, put}
 use Rattle.packing.proofs.RoundTrips.{isByte, numbers-length}

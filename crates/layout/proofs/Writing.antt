@@ -10,7 +10,7 @@ use lib.Seq.{take-at, drop-at, drop-drop}
 use borrow.Author.Tests.{leb-true}
 use Rattle.rules.specs.declared.Timer.{Timer}
 use Rattle.rules.specs.Numbers.{taskRoom, regionRoom, queueRoom, storeSize, timerRoom}
-use Rattle.tables.specs.declared.fronts.Front.{Front}
+use Rattle.tables.specs.declared.front.Front.{Front}
 use Rattle.tables.specs.Fronts.{whole}
 use Rattle.packing.specs.Bytes.{bytes, spread, over, put}
 use Rattle.packing.specs.Timers.{timerWidth, timersBytes, timersPut}

@@ -3,7 +3,7 @@ use mathlib.Core.List.{List}
 use Prim.Native.Nat.{ℕ}
 use lib.ListN.{getD, replicate}
 use Rattle.rules.specs.Numbers.{taskRoom, regionRoom, queueRoom}
-use Rattle.tables.specs.declared.fronts.Front.{Front}
+use Rattle.tables.specs.declared.front.Front.{Front}
 use Rattle.packing.specs.Bytes.{taken}
 use Rattle.packing.specs.Timers.{timersTaken}
 use Rattle.layout.specs.Layout.{priorityPlace, statePlace, arrivedPlace, listPlace, operatorPlace, holderPlace, entriesPlace, boundPlace, lengthPlace, ticksPlace, timersPlace}

@@ -1,7 +1,7 @@
 -- What stands before the store, written over a block part by part.
 use Prim.Native.Nat.{ℕ}
 use mathlib.Core.List.{List, [], _∷_}
-use Rattle.tables.specs.declared.fronts.Front.{Front}
+use Rattle.tables.specs.declared.front.Front.{Front}
 use Rattle.packing.specs.Bytes.{put}
 use Rattle.layout.specs.Layout.{priorityPlace, statePlace, arrivedPlace, listPlace, operatorPlace, holderPlace, entriesPlace, boundPlace, lengthPlace}
 

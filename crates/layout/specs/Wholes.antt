@@ -2,7 +2,7 @@
 use Prim.Native.Nat.{ℕ}
 use mathlib.Core.List.{List, [], _∷_}
 use Rattle.rules.specs.declared.Timer.{Timer}
-use Rattle.tables.specs.declared.fronts.Front.{Front}
+use Rattle.tables.specs.declared.front.Front.{Front}
 use Rattle.packing.specs.Bytes.{put}
 use Rattle.packing.specs.Timers.{timersPut}
 use Rattle.layout.specs.Layout.{elementPlace, criterionPlace, ticksPlace, timersPlace}

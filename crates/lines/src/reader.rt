@@ -1,8 +1,8 @@
 // A reader that walks the lines of a lent log and remembers its place: thin functions over the line reader by value.
-use crate::after::place_after;
-use crate::after::rest_at;
 use crate::ends::Line;
 use crate::ends::line_at;
+use crate::ends::place_after;
+use crate::ends::rest_at;
 ghost use mathlib.Core.Path.{_≡_};
 ghost use lib.ListN.{drop};
 ghost use Rattle.lines.specs.Ends.{lineAt};
@@ -15,14 +15,14 @@ pub struct Reader<'a> {
 }
 
 // A reader at a place.
-pub(crate) fn reader_of<'a>(log: &'a [u8], at: usize) -> Reader<'a>
+fn reader_of<'a>(log: &'a [u8], at: usize) -> Reader<'a>
     ensures { λ r. ⌜ (r .log ≡ log .entry) × (r .at ≡ at) ⌝ }
 {
     Reader { log, at }
 }
 
 // The line at the reader's place; the reader moves behind it.
-pub(crate) fn next_line<'s, 'a>(r: &'s mut Reader<'a>) -> Line
+fn next_line<'s, 'a>(r: &'s mut Reader<'a>) -> Line
     ensures { λ l. ⌜ (l ≡ lineAt (now (now (r .entry) .log)) (now (r .entry) .at)) × (now (r .exit) .log ≡ now (r .entry) .log)
         × (now (r .exit) .at ≡ placeAfter (now (now (r .entry) .log)) (lineAt (now (now (r .entry) .log)) (now (r .entry) .at))) ⌝ }
 {
@@ -37,4 +37,11 @@ pub fn left<'a>(r: Reader<'a>) -> &'a [u8]
     ensures { λ s. ⌜ now s ≡ drop (r .entry .at) (now (r .entry .log)) ⌝ }
 {
     rest_at(r.log, r.at)
+}
+
+pub fn line_from(s: &[u8], at: usize) -> Line
+    ensures { λ r. ⌜ r ≡ lineAt (now (s .entry)) at ⌝ }
+{
+    let mut reader = reader_of(s, at);
+    next_line(&mut reader)
 }

@@ -1,12 +1,11 @@
-// behind, criteria_range, queues, closing, retrieving.
+// Queues in the flat store: the check of their lengths, of what lies behind them and of the criteria, the place that RETRIEVE takes from, and the gap that it leaves.
 mod behind;
-mod closing;
-mod criteria_range;
-mod queues;
-mod retrieving;
+mod check;
+mod gap;
+mod place;
 
-pub use closing::close_criteria;
-pub use closing::close_elements;
-pub use criteria_range::criteria_right;
-pub use queues::queues_right;
-pub use retrieving::place_of;
+pub use check::criteria_right;
+pub use check::queues_right;
+pub use gap::close_criteria;
+pub use gap::close_elements;
+pub use place::place_of;

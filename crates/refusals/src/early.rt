@@ -1,5 +1,5 @@
 // What is refused before the call's numbers are looked at.
-use super::choice::pick;
+use crate::first_reason::pick;
 use rules::Call;
 ghost use mathlib.Core.Path.{_≡_};
 ghost use mathlib.Core.Bool.{not};

@@ -1,5 +1,5 @@
 // Why SEND and RETRIEVE are refused, once their numbers stand for something: the first reason that applies.
-use crate::choice::pick;
+use crate::first_reason::pick;
 use queues::place_of;
 use rules::Call;
 use tables::byte_at;

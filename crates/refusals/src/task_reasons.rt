@@ -1,6 +1,6 @@
 // Why a call about tasks or regions is refused, once its numbers stand for something: the first reason that applies.
-use crate::call_numbers::leaves_of;
-use crate::choice::pick;
+use crate::first_reason::pick;
+use crate::numbers::leaves_of;
 use regions::held_by;
 use rules::Call;
 use tables::byte_at;

@@ -1,12 +1,11 @@
-// regions, holders, entry_counts, region_effects.
-mod entry_counts;
-mod holders;
-mod region_effects;
-mod regions;
+// Regions: who holds them, the check of holders and counts, and what ENTER and EXIT do to one.
+mod check;
+mod effect;
+mod holder;
 
-pub use entry_counts::entries_right;
-pub use holders::holder_right;
-pub use holders::joined_by;
-pub use holders::regions_right;
-pub use region_effects::region_after;
-pub use regions::held_by;
+pub use check::entries_right;
+pub use check::holder_right;
+pub use check::joined_by;
+pub use check::regions_right;
+pub use effect::region_after;
+pub use holder::held_by;

@@ -13,8 +13,8 @@ use Rattle.rules.specs.Validity.{valid}
 use Rattle.rules.specs.Step.{step}
 use Rattle.theorems.proofs.Kept.{valid-same, store-kept}
 use Rattle.packing.specs.Answers.{answerNumber}
-use Rattle.tables.specs.declared.fronts.Front.{Front}
-use Rattle.tables.specs.declared.fronts.FrontDone.{FrontDone}
+use Rattle.tables.specs.declared.front.Front.{Front}
+use Rattle.tables.specs.declared.front.FrontDone.{FrontDone}
 use Rattle.tables.specs.Fronts.{whole, frontOf, frontDone}
 use Rattle.replay.specs.Log.{callAt, replayed, laps, logged}
 

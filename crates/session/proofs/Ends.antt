@@ -9,7 +9,7 @@ use lib.ListN.{length}
 use borrow.Author.Tests.{le-leb, lt-leb, leb-true}
 use Rattle.frames.specs.Answers.{answerLine, placed}
 use Rattle.frames.proofs.Written.{answer-length}
-use Rattle.bench_lines.specs.declared.opening.Standing.{Standing}
+use Rattle.bench_lines.specs.declared.start.Standing.{Standing}
 use Rattle.bench_lines.specs.Steps.{malformed}
 use Rattle.session.specs.Ending.{ending, endingLength}
 

@@ -13,18 +13,18 @@ use Rattle.rules.specs.declared.Table.{Table}
 use Rattle.rules.specs.declared.Answer.{Answer}
 use Rattle.frames.specs.Answers.{answerLine, placed}
 use Rattle.frames.proofs.Written.{answer-length}
-use Rattle.bench_lines.specs.declared.opening.Standing.{Standing}
-use Rattle.bench_lines.specs.declared.turns.Turn.{Turn}
-use Rattle.bench_lines.specs.declared.asked_lines.Asked.{Asked}
-use Rattle.session.specs.declared.fed.Fed.{Fed}
+use Rattle.bench_lines.specs.declared.start.Standing.{Standing}
+use Rattle.bench_lines.specs.declared.first.Turn.{Turn}
+use Rattle.bench_lines.specs.declared.later.Asked.{Asked}
+use Rattle.session.specs.declared.feed.Fed.{Fed}
 use Rattle.rules.specs.Words.{isZero}
 use Rattle.rules.proofs.Bools.{and-left, and-right, not-intro}
 use Rattle.bench_lines.proofs.Plain.{not-true}
 use Rattle.rules.specs.Numbers.{storeSize}
-use Rattle.tables.specs.declared.fronts.Front.{Front}
-use Rattle.tables.specs.declared.fronts.FrontDone.{FrontDone}
+use Rattle.tables.specs.declared.front.Front.{Front}
+use Rattle.tables.specs.declared.front.FrontDone.{FrontDone}
 use Rattle.tables.specs.Fronts.{whole, frontOf, frontDone}
-use Rattle.bench_lines.specs.declared.bench_line.Heard.{Heard}
+use Rattle.bench_lines.specs.declared.later.Heard.{Heard}
 use Rattle.bench_lines.specs.Steps.{malformed, lineDone, heardDone}
 use Rattle.theorems.proofs.Kept.{store-kept}
 use Rattle.session.specs.Lines.{after, answered, stood}

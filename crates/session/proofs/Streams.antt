@@ -10,7 +10,7 @@ use lib.Seq.{take-all, take-append-le, take-take, length-take-le}
 use borrow.Author.Tests.{leb-true, leb-false}
 use Rattle.rules.specs.Queues.{before}
 use Rattle.lines.specs.Ends.{lineFeed, longest}
-use Rattle.bench_lines.specs.declared.opening.Standing.{Standing}
+use Rattle.bench_lines.specs.declared.start.Standing.{Standing}
 use Rattle.bench_lines.specs.Start.{start}
 use Rattle.bench_lines.specs.Steps.{lineDone}
 use Rattle.bench_lines.proofs.Called.{long-alike}

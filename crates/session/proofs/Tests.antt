@@ -7,8 +7,8 @@ use lib.ListN.{length}
 use borrow.Author.Tests.{le-leb, lt-leb, ne-eqb}
 use Rattle.rules.specs.declared.Table.{Table}
 use Rattle.frames.specs.Answers.{answerLine, placed}
-use Rattle.bench_lines.specs.declared.turns.Turn.{Turn}
-use Rattle.session.specs.declared.fed.Fed.{Fed}
+use Rattle.bench_lines.specs.declared.first.Turn.{Turn}
+use Rattle.session.specs.declared.feed.Fed.{Fed}
 use Rattle.bench_lines.specs.Places.{standing, turnAt}
 use Rattle.session.specs.Feed.{fedAt, opens, openedTold, openedOut}
 

@@ -14,9 +14,9 @@ use Rattle.lines.specs.declared.ends.Line.{Line}
 use Rattle.lines.specs.declared.ends.Line.the-variants.{Whole, TooLong, Unended, Nothing}
 use Rattle.lines.specs.Ends.{lineFeed, longest, lineIn, lineAt, part}
 use Rattle.rules.specs.declared.Table.{Table}
-use Rattle.bench_lines.specs.declared.opening.Standing.{Standing}
-use Rattle.bench_lines.specs.declared.turns.Turn.{Turn}
-use Rattle.bench_lines.specs.declared.asked_lines.Asked.{Asked}
+use Rattle.bench_lines.specs.declared.start.Standing.{Standing}
+use Rattle.bench_lines.specs.declared.first.Turn.{Turn}
+use Rattle.bench_lines.specs.declared.later.Asked.{Asked}
 use Rattle.bench_lines.specs.Steps.{malformed, tooLong, lineDone, heard, heardDone}
 use Rattle.session.specs.Lines.{cut}
 use Rattle.bench_lines.specs.AskedAt.{askedOf, askedAt}

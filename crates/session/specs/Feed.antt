@@ -7,9 +7,9 @@ use lib.ListN.{length, take, drop}
 use Rattle.rules.specs.declared.Table.{Table}
 use Rattle.rules.specs.Words.{isZero}
 use Rattle.frames.specs.Answers.{answerLine, placed}
-use Rattle.bench_lines.specs.declared.opening.Standing.{Standing}
+use Rattle.bench_lines.specs.declared.start.Standing.{Standing}
 use Rattle.bench_lines.specs.Places.{standing, turnAt}
-use Rattle.session.specs.declared.fed.Fed.{Fed}
+use Rattle.session.specs.declared.feed.Fed.{Fed}
 use Rattle.session.specs.Lines.{cut, answered, stood}
 
 -- ---- the lines of a piece

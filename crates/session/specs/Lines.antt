@@ -5,7 +5,7 @@ use mathlib.Core.List.{List, [], _∷_, _++_}
 use lib.Dec.{eqb}
 use Rattle.lines.specs.Ends.{lineFeed}
 use Rattle.frames.specs.Answers.{answerLine}
-use Rattle.bench_lines.specs.declared.opening.Standing.{Standing}
+use Rattle.bench_lines.specs.declared.start.Standing.{Standing}
 use Rattle.bench_lines.specs.Steps.{lineDone}
 
 -- ---- lines, "each ended by a line feed", and the bytes behind the last of them

@@ -2,10 +2,10 @@
 use Prim.Native.Nat.{ℕ, _*_}
 use mathlib.Core.List.{List}
 use lib.ListN.{length, drop}
-use Rattle.bench_lines.specs.declared.opening.Standing.{Standing}
+use Rattle.bench_lines.specs.declared.start.Standing.{Standing}
 use Rattle.session.specs.Lines.{stood}
 use Rattle.session.specs.Feed.{answerLength, fitting, taken}
-use Rattle.session.specs.declared.session.Held.{Held}
+use Rattle.session.specs.declared.pieces.Held.{Held}
 use Rattle.session.specs.Run.{kept}
 
 -- ---- the next piece's front: what this one leaves unended

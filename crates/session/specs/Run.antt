@@ -3,7 +3,7 @@ use Prim.Native.Nat.{ℕ, suc}
 use mathlib.Core.List.{List, [], _∷_, _++_}
 use lib.ListN.{take}
 use Rattle.lines.specs.Ends.{longest}
-use Rattle.bench_lines.specs.declared.opening.Standing.{Standing}
+use Rattle.bench_lines.specs.declared.start.Standing.{Standing}
 use Rattle.bench_lines.specs.Start.{start}
 use Rattle.session.specs.Ending.{ending}
 use Rattle.session.specs.Lines.{cut, answered, stood}

@@ -1,12 +1,18 @@
 // A run over the input piece by piece.
-use crate::feeding::feed;
-use crate::session::Held;
+use crate::feed::feed;
 use bench_lines::Standing;
 ghost use mathlib.Core.Path.{_≡_};
 ghost use Prim.Native.Nat.{_+_, _≤_, min};
 ghost use lib.ListN.{length, take, drop};
 ghost use Rattle.session.specs.Feed.{pieceAnswers, over};
 ghost use Rattle.session.specs.Pieces.{pieceTold, pieceLeft};
+
+// After a whole piece: how many bytes at the front of the buffer belong to a line that goes on in the next piece.
+pub struct Held {
+    pub standing: Standing,
+    pub held: usize,
+    pub written: usize,
+}
 
 fn lesser(x: usize, y: usize) -> usize
     ensures { λ r. ⌜ r ≡ min x y ⌝ }

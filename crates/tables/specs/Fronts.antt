@@ -3,8 +3,8 @@ use Prim.Native.Nat.{ℕ}
 use mathlib.Core.List.{List, []}
 use Rattle.rules.specs.declared.Table.{Table}
 use Rattle.rules.specs.declared.Done.{Done}
-use Rattle.tables.specs.declared.fronts.Front.{Front}
-use Rattle.tables.specs.declared.fronts.FrontDone.{FrontDone}
+use Rattle.tables.specs.declared.front.Front.{Front}
+use Rattle.tables.specs.declared.front.FrontDone.{FrontDone}
 
 -- the table of a front and the places of its queues
 abbrev pub whole : Front → List ℕ → List ℕ → Table

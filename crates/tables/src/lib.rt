@@ -1,15 +1,13 @@
-// lookups, fronts, table_counts, new_tables, configure.
-mod configure;
-mod fronts;
-mod lookups;
-mod new_tables;
-mod parts;
-mod table_counts;
+// Tables: one entry looked up, a table taken apart into its front and its store, its counts, and a fresh one from a configuration.
+mod configuration;
+mod counts;
+mod front;
+mod lookup;
 
-pub use configure::fresh;
-pub use fronts::Front;
-pub use fronts::FrontDone;
-pub use lookups::byte_at;
-pub use parts::front_of;
-pub use parts::table_of;
-pub use table_counts::counts_right;
+pub use configuration::fresh;
+pub use counts::counts_right;
+pub use front::Front;
+pub use front::FrontDone;
+pub use front::front_of;
+pub use front::table_of;
+pub use lookup::byte_at;

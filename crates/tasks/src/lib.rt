@@ -1,12 +1,11 @@
-// What the executive asks of events: whether a condition is met, and what a signal makes of one task.
+// Tasks: the condition that one waits for, what a signal makes of it, the check of all of them, and what a call does to one.
+mod check;
 mod condition;
+mod effect;
 mod signal;
-mod task_effects;
-mod task_rule;
-mod tasks;
 
+pub use check::tasks_right;
 pub use condition::met_by;
+pub use effect::target_of;
+pub use effect::task_after;
 pub use signal::signalled_by;
-pub use task_effects::target_of;
-pub use task_effects::task_after;
-pub use tasks::tasks_right;

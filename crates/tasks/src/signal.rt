@@ -1,5 +1,5 @@
 // A signal to one task: the event arrives, and a waiting task whose condition is now met becomes ready.
-use super::condition::met_by;
+use crate::condition::met_by;
 use rules::Task;
 ghost use mathlib.Core.Path.{_≡_};
 ghost use Prim.Native.Nat.{_%_};

@@ -21,7 +21,7 @@ use Rattle.rules.specs.Validity.{countsInRange, timerRight, timersRight, valid}
 use Rattle.rules.specs.Effects.{ringing, ticked}
 use Rattle.rules.proofs.Bools.{and-left, and-right, both, given}
 use Rattle.rules.proofs.Validity.{parts-of}
-use Rattle.timers.specs.declared.ringing.Rows.{Rows}
+use Rattle.timers.specs.declared.ring.Rows.{Rows}
 use Rattle.timers.specs.Signals.{signalledAt, rungRow, rungRows, rowsOf, withRows}
 
 -- ---- one timer, as the code tests it

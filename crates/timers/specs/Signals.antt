@@ -12,7 +12,7 @@ use Rattle.rules.specs.Numbers.{taskRoom, eventEnd}
 use Rattle.rules.specs.Tasks.{signalled}
 use Rattle.rules.specs.Tables.{withColumns}
 use Rattle.rules.specs.Timers.{isDue}
-use Rattle.timers.specs.declared.ringing.Rows.{Rows}
+use Rattle.timers.specs.declared.ring.Rows.{Rows}
 
 -- what the columns say of task i, and the columns where they say this of it
 abbrev pub rowOf : Rows → ℕ → Task

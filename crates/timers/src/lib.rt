@@ -1,17 +1,14 @@
-// clock, one_timer, timer_rule, timers, arming, ringing, timer_effects.
-mod arming;
+// Timers: the tick counter, the check of all sixteen, what ARM, DISARM and STOP make of them, and a tick.
+mod arm;
+mod check;
 mod clock;
-mod one_timer;
-mod ringing;
-mod timer_effects;
-mod timer_rule;
-mod timers;
+mod ring;
 
-pub use arming::others_at;
+pub use arm::others_at;
+pub use arm::timer_after;
+pub use arm::timers_left;
+pub use check::timers_right;
 pub use clock::later_by;
-pub use ringing::Rows;
-pub use ringing::rung_all;
-pub use ringing::rung_rows;
-pub use timer_effects::timer_after;
-pub use timer_effects::timers_left;
-pub use timers::timers_right;
+pub use ring::Rows;
+pub use ring::rung_all;
+pub use ring::rung_rows;

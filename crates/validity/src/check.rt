@@ -1,4 +1,4 @@
-// The validity check over a table whose arrays are lent: every rule of the list, by subject.
+// The validity check: every rule of the list, by subject, over a front and a lent store or a whole table.
 use election::elected_by;
 use queues::criteria_right;
 use queues::queues_right;
@@ -6,7 +6,9 @@ use regions::entries_right;
 use regions::holder_right;
 use regions::joined_by;
 use regions::regions_right;
+use rules::Table;
 use rules::Timer;
+use tables::Front;
 use tables::counts_right;
 use tasks::tasks_right;
 use timers::timers_right;
@@ -14,10 +16,11 @@ ghost use mathlib.Core.Path.{_≡_};
 ghost use lib.ListN.{length};
 ghost use Rattle.rules.specs.Validity.{valid};
 ghost use Rattle.validity.specs.Lent.{lent};
+ghost use Rattle.tables.specs.Fronts.{whole};
 
 // The regions' entries are joined once, and serve the regions' part and the election. There is a way out before each call and each loop, so
 // that the numbers of a part in packed instructions are done with, and need not be put aside.
-pub(crate) fn valid_of<'a>(
+fn valid_of<'a>(
     tasks: u8,
     regions: u8,
     queues: u8,
@@ -69,4 +72,57 @@ pub(crate) fn valid_of<'a>(
     let columns = tasks_right(tasks, priority, state, arrived, list, operator);
     let criteria = criteria_right(criterion);
     columns & criteria
+}
+
+pub fn front_valid<'a>(f: Front, element: &'a [u32; 512], criterion: &'a [u8; 512]) -> bool
+    requires { ⌜ length (now element) ≡ 512 ⌝ }
+    requires { ⌜ length (now criterion) ≡ 512 ⌝ }
+    ensures { λ r. ⌜ r ≡ valid (whole f (now (element .entry)) (now (criterion .entry))) ⌝ }
+{
+    let timers = f.timers;
+    valid_of(
+        f.tasks,
+        f.regions,
+        f.queues,
+        f.elected,
+        &f.priority,
+        &f.state,
+        &f.arrived,
+        &f.list,
+        &f.operator,
+        &f.holder,
+        &f.entries,
+        &f.bound,
+        &f.length,
+        element,
+        criterion,
+        f.ticks,
+        timers,
+    )
+}
+
+// A query is in no hurry, so the table is handed over whole.
+pub fn is_valid(t: Table) -> bool
+    ensures { λ r. ⌜ r ≡ valid t ⌝ }
+{
+    let timers = t.timers;
+    valid_of(
+        t.tasks,
+        t.regions,
+        t.queues,
+        t.elected,
+        &t.priority,
+        &t.state,
+        &t.arrived,
+        &t.list,
+        &t.operator,
+        &t.holder,
+        &t.entries,
+        &t.bound,
+        &t.length,
+        &t.element,
+        &t.criterion,
+        t.ticks,
+        timers,
+    )
 }

@@ -1,8 +1,6 @@
-// The validity check over a table whose arrays are lent.
+// Whether a table is valid: every rule of the list, by subject.
 mod check;
-mod front_validity;
-mod whole_table;
 
-pub use front_validity::front_valid;
+pub use check::front_valid;
+pub use check::is_valid;
 pub use tables::counts_right;
-pub use whole_table::is_valid;

@@ -45,10 +45,10 @@ use denote.Triple.Clauses.{ensured, lasts}
 use Rattle.lines.specs.declared.reader.Reader.{Reader}
 use Rattle.lines.proofs.reader.Reader as T
 use Rattle.lines.proofs.reader.Reader.Laws as T′
-use Rattle.lines.proofs.after.rest_at as rest-at
-use Rattle.lines.proofs.after.rest_at.Symbol as rest-at-def
-use Rattle.lines.proofs.after.rest_at.Symbol.{name as #lines·after·rest-at}
-use Rattle.lines.proofs.after.rest_at.Met as rest-at-thm
+use Rattle.lines.proofs.ends.rest_at as rest-at
+use Rattle.lines.proofs.ends.rest_at.Symbol as rest-at-def
+use Rattle.lines.proofs.ends.rest_at.Symbol.{name as #lines·ends·rest-at}
+use Rattle.lines.proofs.ends.rest_at.Met as rest-at-thm
 use Rattle.lines.proofs.reader.left.Key.{name as #lines·reader·left}
 use Rattle.lines.proofs.reader.left as left
 use Rattle.lines.proofs.reader.left.Statement as stated
@@ -127,7 +127,7 @@ module _ {M : Type 1} (𝓤 : URA M) (H : Heap 𝓤) (A : Atoms 𝓤) (W : Given
       suffices ! _ (ends-at 𝓤 H A left.ended stayed (left.clauses 𝓤 H A mem run) W (((κ, tt), (q, tt), tt, (d, tt), (mach ∷ [], tt)), tt) u r (tt, tt) (tt, tt)) $ says ! e $
       move ! (1 ∷ []) $ frame ! $ nothing ! $ move ! (2 ∷ 0 ∷ []) $ fjoin ! $ frame ! $ done !
 
-  module _ (C : Calls 𝓤 H) (Λ : Loops 𝓤 H) (fm : FmC 𝓤 H (W .laws) C) (known : Triple 𝓤 (C #lines·after·rest-at) (RestAt 𝓤 H A mem run)) where
+  module _ (C : Calls 𝓤 H) (Λ : Loops 𝓤 H) (fm : FmC 𝓤 H (W .laws) C) (known : Triple 𝓤 (C #lines·ends·rest-at) (RestAt 𝓤 H A mem run)) where
     walk : Holds (hasTy (T′.mir (named 0)) mach) × WT mach → ent 𝓤 (onEntry 𝓤 H A left.signature (κ, tt) (q, tt) (d, tt) (mach ∷ [], tt)) (WpFn 𝓤 H C Λ code.function (mach ∷ []) Post)
     walk wt =
         qed W (raw (onEntry 𝓤 H A left.signature (κ, tt) (q, tt) (d, tt) (mach ∷ [], tt)) ∷ []) ∵ enter ! C Λ code.function (mach ∷ []) _ $
@@ -145,13 +145,13 @@ module _ {M : Type 1} (𝓤 : URA M) (H : Heap 𝓤) (A : Atoms 𝓤) (W : Given
         move ! (9 ∷ 10 ∷ []) $ free1 ! $ move ! (7 ∷ 8 ∷ []) $ free1 ! $ move ! (5 ∷ 6 ∷ []) $ free1 ! $ move ! (3 ∷ 4 ∷ []) $ free1 ! $ free0 ! $ by ! (exits r u e)))))))))
 
 module _ {M : Type 1} (𝓤 : URA M) (H : Heap 𝓤) (A : Atoms 𝓤) (W : Given 𝓤 H A) (mem : Memory → SProp 𝓤) (run : Routine → Fun 𝓤) where
-  left-walks : (C : Calls 𝓤 H) (Λ : Loops 𝓤 H) → FmC 𝓤 H (W .laws) C → Triple 𝓤 (C #lines·after·rest-at) (RestAt 𝓤 H A mem run)
+  left-walks : (C : Calls 𝓤 H) (Λ : Loops 𝓤 H) → FmC 𝓤 H (W .laws) C → Triple 𝓤 (C #lines·ends·rest-at) (RestAt 𝓤 H A mem run)
       → Walks 𝓤 H A left.ended stayed (WpFn 𝓤 H C Λ code.function) (left.clauses 𝓤 H A mem run)
   left-walks C Λ fm known = walked 𝓤 H A left.ended stayed (left.clauses 𝓤 H A mem run) (WpFn 𝓤 H C Λ code.function) (λ κs. (LL.vals (T.the-type (namedLft 1 0 tt κs)) (T′.the-laws (namedLft 1 0 tt κs)), tt)) (λ κs. (LL.tells (T.the-type (namedLft 1 0 tt κs)) (T′.the-laws (namedLft 1 0 tt κs)), tt))
       (λ κs qs bounds a g are. via 𝓤 _ (fst∗ 𝓤 _ (emp 𝓤)) (walk 𝓤 H A W mem run (κs .0) (qs .0) (a .0) C Λ fm known (LL.lawful (T.the-type (namedLft 1 0 tt κs)) (T′.the-laws (namedLft 1 0 tt κs)) 𝓤 H A W .typed (a .0) _ (are .0) .0)))
 
 left-meets : {M : Type 1} (𝓤 : URA M) (H : Heap 𝓤) (A : Atoms 𝓤) (W : Given 𝓤 H A) (mem : Memory → SProp 𝓤) (run : Routine → Fun 𝓤) (𝓣 : Tables 𝓤 H)
-    → Triple 𝓤 (𝓣 .C #lines·after·rest-at) (RestAt 𝓤 H A mem run)
+    → Triple 𝓤 (𝓣 .C #lines·ends·rest-at) (RestAt 𝓤 H A mem run)
     → Meets 𝓤 H A left.signature (WpFn 𝓤 H (𝓣 .C) (𝓣 .Λ) code.function) (left.spec 𝓤 H A mem run)
 left-meets 𝓤 H A W mem run 𝓣 known-rest = walk-meets 𝓤 H A left.ended stayed W (goes-none 𝓤 H A W 1 B yes (λ κs x f. refl), tt) (left.clauses 𝓤 H A mem run) (WpFn 𝓤 H (𝓣 .C) (𝓣 .Λ) code.function) (WpFn-mono 𝓤 H (W .laws) 𝓣 code.function)
     (left-walks 𝓤 H A W mem run (𝓣 .C) (𝓣 .Λ) (fmOf 𝓤 H (W .laws) 𝓣) known-rest)
@@ -162,4 +162,4 @@ left-spec 𝓤 H 𝓜 𝓖 𝓡 =
     entered 𝓤 H (tripleOf 𝓤 H (𝓖 .A) left.signature (left.spec 𝓤 H (𝓖 .A) (𝓜 .mem) (𝓡 .run)))
     (tables 𝓤 H 𝓜 𝓡 code.env .C) (tables 𝓤 H 𝓜 𝓡 code.env .Λ) #lines·reader·left code.function (code.unfolded 𝓤 H 𝓜 𝓡)
     (left-meets 𝓤 H (𝓖 .A) (givenOf 𝓤 H 𝓜 𝓖) (𝓜 .mem) (𝓡 .run) (tablesOf 𝓤 H 𝓜 (tables 𝓤 H 𝓜 𝓡 code.env))
-    (cited 𝓤 H (RestAt 𝓤 H (𝓖 .A) (𝓜 .mem) (𝓡 .run)) 𝓜 𝓡 code.env #lines·after·rest-at rest-at-def.routine code.calls-lines·after·rest-at (rest-at-thm.met 𝓤 H 𝓜 𝓖 𝓡)))
+    (cited 𝓤 H (RestAt 𝓤 H (𝓖 .A) (𝓜 .mem) (𝓡 .run)) 𝓜 𝓡 code.env #lines·ends·rest-at rest-at-def.routine code.calls-lines·ends·rest-at (rest-at-thm.met 𝓤 H 𝓜 𝓖 𝓡)))

@@ -58,10 +58,10 @@ use Rattle.lines.proofs.ends.line_at as line-at
 use Rattle.lines.proofs.ends.line_at.Symbol as line-at-def
 use Rattle.lines.proofs.ends.line_at.Symbol.{name as #lines·ends·line-at}
 use Rattle.lines.proofs.ends.line_at.Met as line-at-thm
-use Rattle.lines.proofs.after.place_after as place-after
-use Rattle.lines.proofs.after.place_after.Symbol as place-after-def
-use Rattle.lines.proofs.after.place_after.Symbol.{name as #lines·after·place-after}
-use Rattle.lines.proofs.after.place_after.Met as place-after-thm
+use Rattle.lines.proofs.ends.place_after as place-after
+use Rattle.lines.proofs.ends.place_after.Symbol as place-after-def
+use Rattle.lines.proofs.ends.place_after.Symbol.{name as #lines·ends·place-after}
+use Rattle.lines.proofs.ends.place_after.Met as place-after-thm
 use Rattle.lines.proofs.reader.next_line.Key.{name as #lines·reader·next-line}
 use Rattle.lines.proofs.reader.next_line as next-line
 use Rattle.lines.proofs.reader.next_line.Statement as stated
@@ -185,7 +185,7 @@ module _ {M : Type 1} (𝓤 : URA M) (H : Heap 𝓤) (A : Atoms 𝓤) (W : Given
       suffices ! _ (ends-at 𝓤 H A next-line.ended stayed (next-line.clauses 𝓤 H A at-mem run) W (((κ, (κ′, tt)), (q, (q′, tt)), bounds, x, at), tt) u l (to n, tt) (tt, tt)) $ says ! (e, refl, e′) $
       move ! (2 ∷ 3 ∷ []) $ join ! $ frame ! $ feqI ! (List Val) (vptr b o ∷ []) (vptr b o ∷ []) refl $ fjoin3 ! $ nothing ! $ move ! (1 ∷ 0 ∷ []) $ fjoin ! $ done !
 
-  module _ (C : Calls 𝓤 H) (Λ : Loops 𝓤 H) (fm : FmC 𝓤 H (W .laws) C) (known-line : Triple 𝓤 (C #lines·ends·line-at) (LineAt 𝓤 H A at-mem run)) (known-place : Triple 𝓤 (C #lines·after·place-after) (PlaceAfter 𝓤 H A at-mem run)) where
+  module _ (C : Calls 𝓤 H) (Λ : Loops 𝓤 H) (fm : FmC 𝓤 H (W .laws) C) (known-line : Triple 𝓤 (C #lines·ends·line-at) (LineAt 𝓤 H A at-mem run)) (known-place : Triple 𝓤 (C #lines·ends·place-after) (PlaceAfter 𝓤 H A at-mem run)) where
     walk : ent 𝓤 (onEntry 𝓤 H A next-line.signature (κ, (κ′, tt)) (q, (q′, tt)) x at) (WpFn 𝓤 H C Λ code.function (vptr b o ∷ []) Post)
     walk =
         qed W ((‵ (flft κ q) ⊛ ‵ (flft κ′ q′) ⊛ ‵ ftrue) ∷ ‵ (owns (MutRef (named 0) κ R ∷ []) x at) ∷ []) ∵ enter ! C Λ code.function (vptr b o ∷ []) _ $
@@ -226,13 +226,13 @@ module _ {M : Type 1} (𝓤 : URA M) (H : Heap 𝓤) (A : Atoms 𝓤) (W : Given
         keep ! (0 ∷ 1 ∷ 2 ∷ 4 ∷ 5 ∷ []) $ by ! (exits l u n e (e′ ∙ ap behind-it e)))))))))))))))))
 
 module _ {M : Type 1} (𝓤 : URA M) (H : Heap 𝓤) (A : Atoms 𝓤) (W : Given 𝓤 H A) (mem : Memory → SProp 𝓤) (run : Routine → Fun 𝓤) where
-  next-line-walks : (C : Calls 𝓤 H) (Λ : Loops 𝓤 H) → FmC 𝓤 H (W .laws) C → Triple 𝓤 (C #lines·ends·line-at) (LineAt 𝓤 H A mem run) → Triple 𝓤 (C #lines·after·place-after) (PlaceAfter 𝓤 H A mem run)
+  next-line-walks : (C : Calls 𝓤 H) (Λ : Loops 𝓤 H) → FmC 𝓤 H (W .laws) C → Triple 𝓤 (C #lines·ends·line-at) (LineAt 𝓤 H A mem run) → Triple 𝓤 (C #lines·ends·place-after) (PlaceAfter 𝓤 H A mem run)
       → Walks 𝓤 H A next-line.ended stayed (WpFn 𝓤 H C Λ code.function) (next-line.clauses 𝓤 H A mem run)
   next-line-walks C Λ fm known-line known-place = walked 𝓤 H A next-line.ended stayed (next-line.clauses 𝓤 H A mem run) (WpFn 𝓤 H C Λ code.function) (λ κs. (ptr-vals, tt)) (λ κs. (mut-tells (named 0) (κs .0) (T.the-row (namedLft 2 1 tt κs)), tt))
       (λ κs qs bounds a g are. via 𝓤 _ (fst∗ 𝓤 _ (emp 𝓤)) (walk 𝓤 H A W mem run (κs .0) (κs .1 .0) (qs .0) (qs .1 .0) bounds (a .0 .ptr .0) (a .0 .ptr .1) (a .0 .name) (a .0 .now) C Λ fm known-line known-place))
 
 next-line-meets : {M : Type 1} (𝓤 : URA M) (H : Heap 𝓤) (A : Atoms 𝓤) (W : Given 𝓤 H A) (mem : Memory → SProp 𝓤) (run : Routine → Fun 𝓤) (𝓣 : Tables 𝓤 H)
-    → Triple 𝓤 (𝓣 .C #lines·ends·line-at) (LineAt 𝓤 H A mem run) → Triple 𝓤 (𝓣 .C #lines·after·place-after) (PlaceAfter 𝓤 H A mem run)
+    → Triple 𝓤 (𝓣 .C #lines·ends·line-at) (LineAt 𝓤 H A mem run) → Triple 𝓤 (𝓣 .C #lines·ends·place-after) (PlaceAfter 𝓤 H A mem run)
     → Meets 𝓤 H A next-line.signature (WpFn 𝓤 H (𝓣 .C) (𝓣 .Λ) code.function) (next-line.spec 𝓤 H A mem run)
 next-line-meets 𝓤 H A W mem run 𝓣 known-line known-place = walk-meets 𝓤 H A next-line.ended stayed W (goes-ref 𝓤 H A W 2 0 tt behind, tt) (next-line.clauses 𝓤 H A mem run) (WpFn 𝓤 H (𝓣 .C) (𝓣 .Λ) code.function) (WpFn-mono 𝓤 H (W .laws) 𝓣 code.function)
     (next-line-walks 𝓤 H A W mem run (𝓣 .C) (𝓣 .Λ) (fmOf 𝓤 H (W .laws) 𝓣) known-line known-place)
@@ -244,4 +244,4 @@ next-line-spec 𝓤 H 𝓜 𝓖 𝓡 =
     (tables 𝓤 H 𝓜 𝓡 code.env .C) (tables 𝓤 H 𝓜 𝓡 code.env .Λ) #lines·reader·next-line code.function (code.unfolded 𝓤 H 𝓜 𝓡)
     (next-line-meets 𝓤 H (𝓖 .A) (givenOf 𝓤 H 𝓜 𝓖) (𝓜 .mem) (𝓡 .run) (tablesOf 𝓤 H 𝓜 (tables 𝓤 H 𝓜 𝓡 code.env))
     (cited 𝓤 H (LineAt 𝓤 H (𝓖 .A) (𝓜 .mem) (𝓡 .run)) 𝓜 𝓡 code.env #lines·ends·line-at line-at-def.routine code.calls-lines·ends·line-at (line-at-thm.met 𝓤 H 𝓜 𝓖 𝓡))
-    (cited 𝓤 H (PlaceAfter 𝓤 H (𝓖 .A) (𝓜 .mem) (𝓡 .run)) 𝓜 𝓡 code.env #lines·after·place-after place-after-def.routine code.calls-lines·after·place-after (place-after-thm.met 𝓤 H 𝓜 𝓖 𝓡)))
+    (cited 𝓤 H (PlaceAfter 𝓤 H (𝓖 .A) (𝓜 .mem) (𝓡 .run)) 𝓜 𝓡 code.env #lines·ends·place-after place-after-def.routine code.calls-lines·ends·place-after (place-after-thm.met 𝓤 H 𝓜 𝓖 𝓡)))

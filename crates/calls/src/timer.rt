@@ -1,0 +1,74 @@
+// ARM and DISARM, which change one timer, and TICK, once accepted: all due timers signal, and then one election.
+use election::elected_by;
+use regions::held_by;
+use rules::Answer;
+use rules::Call;
+use tables::Front;
+use tables::FrontDone;
+use timers::Rows;
+use timers::later_by;
+use timers::rung_all;
+use timers::rung_rows;
+use timers::timer_after;
+ghost use mathlib.Core.Path.{_≡_};
+ghost use Rattle.tables.specs.Fronts.{frontDone, storeless};
+ghost use Rattle.calls.specs.TimerMade.{timerMade, tickMade};
+
+pub(crate) fn timer_call(mut t: Front, k: Call) -> FrontDone
+    ensures { λ r. ⌜ r ≡ frontDone (timerMade (storeless t) k) ⌝ }
+{
+    let at = (k.a % 16) as usize;
+    t.timers[at] = timer_after(k, t.ticks, t.timers[at]);
+    FrontDone {
+        front: t,
+        answer: Answer {
+            status: 0,
+            value: 0,
+            key: 0,
+            elected: t.elected,
+        },
+    }
+}
+
+pub(crate) fn tick_call(mut t: Front) -> FrontDone
+    ensures { λ r. ⌜ r ≡ frontDone (tickMade (storeless t)) ⌝ }
+{
+    let now = later_by(t.ticks, 1);
+    let timers = t.timers;
+    let state = t.state;
+    let arrived = t.arrived;
+    let list = t.list;
+    let operator = t.operator;
+    let rows = rung_rows(
+        now,
+        timers,
+        Rows {
+            state: state,
+            arrived: arrived,
+            list: list,
+            operator: operator,
+        },
+    );
+    let state = rows.state;
+    let arrived = rows.arrived;
+    let list = rows.list;
+    let operator = rows.operator;
+    t.state = state;
+    t.arrived = arrived;
+    t.list = list;
+    t.operator = operator;
+    t.timers = rung_all(now, timers);
+    t.ticks = now;
+    let v = held_by(&t.holder);
+    let next = elected_by(v, &t.state, &t.priority);
+    t.elected = next;
+    FrontDone {
+        front: t,
+        answer: Answer {
+            status: 0,
+            value: 0,
+            key: 0,
+            elected: t.elected,
+        },
+    }
+}

@@ -1,0 +1,39 @@
+-- The number from each byte on is the byte and 256 times the number behind it.
+use borrow.Author.Needs.{needs}
+use native.Mathlib.Omega.{arith}
+use Rattle.packing.proofs.Single.{number-from, number-past}
+use Rattle.packing.proofs.read.half_in.Statement.{statement}
+use Rattle.packing.proofs.read.half_in.Tie as tie
+
+shared-slice-read-result : tie.Need-shared-slice-read-result
+shared-slice-read-result c = search needs
+
+cast-result : tie.Need-cast-result
+cast-result c = omega (arith, c .shared-slice-known .given 0, c .shared-slice-known .given 1)
+
+shared-slice-read-result-2 : tie.Need-shared-slice-read-result-2
+shared-slice-read-result-2 c = search needs
+
+cast-result-2 : tie.Need-cast-result-2
+cast-result-2 c = omega (arith, c .before .shared-slice-known .given 0, c .before .shared-slice-known .given 1)
+
+mul-result : tie.Need-mul-result
+mul-result c = omega (arith, c .before .shared-slice-known .given 0, c .before .shared-slice-known .given 1)
+
+add-result : tie.Need-add-result
+add-result c = omega (arith, c .before .shared-slice-known .given 0, c .before .shared-slice-known .given 1)
+
+returns : tie.Need-returns
+returns c = omega (arith, number-from 0 ((c .before) .before .args .p .now) (omega arith), number-from 1 ((c .before) .before .args .p .now) (omega arith), number-past 2 ((c .before) .before .args .p .now) (omega arith))
+
+pub half-in-spec : {M : Type 1} → statement M
+half-in-spec =
+    tie.close
+    (tie.spec
+    shared-slice-read-result
+    cast-result
+    shared-slice-read-result-2
+    cast-result-2
+    mul-result
+    add-result
+    returns)

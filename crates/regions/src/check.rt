@@ -1,0 +1,74 @@
+// The check of the regions: all occupied ones have one holder, which is a ready task, and each count fits its region's holder.
+ghost use mathlib.Core.Path.{_≡_};
+ghost use lib.ListN.{length};
+ghost use Rattle.regions.specs.Joined.{joined};
+ghost use Rattle.rules.proofs.Validity.{regionFits, regionsRight, holderRight, entriesEverywhere};
+ghost use Rattle.rules.specs.Validity.{entriesFit};
+
+// The entries' bits, joined. Where all occupied regions have the same entry it is this one, and where they have not, `regions_right` finds
+// that no entry is all of theirs: so the check needs no walk to the first occupied region.
+pub fn joined_by(holder: &[u8; 16]) -> u8
+    requires { ⌜ length (now holder) ≡ 16 ⌝ }
+    ensures { λ r. ⌜ r ≡ joined 0 (now (holder .entry)) ⌝ }
+{
+    let mut bits: u8 = 0;
+    for i in 0..16 {
+        bits = bits | holder[i];
+    }
+    bits
+}
+
+fn region_fits(regions: u8, v: u8, i: u8, h: u8) -> bool
+    ensures { λ r. ⌜ r ≡ regionFits regions v i h ⌝ }
+{
+    (h == 0) | ((i < regions) & (h == v))
+}
+
+// Every occupied region lies below the count and has the entry v.
+pub fn regions_right(regions: u8, v: u8, holder: &[u8; 16]) -> bool
+    requires { ⌜ length (now holder) ≡ 16 ⌝ }
+    ensures { λ r. ⌜ r ≡ regionsRight regions v (now (holder .entry)) ⌝ }
+{
+    let mut ok = true;
+    for i in 0..16 {
+        let fits = region_fits(regions, v, i as u8, holder[i]);
+        ok = ok & fits;
+    }
+    ok
+}
+
+// The holder behind the entry v, if there is one, is a task of the table and ready.
+pub fn holder_right(tasks: u8, state: &[u8; 32], v: u8) -> bool
+    requires { ⌜ length (now state) ≡ 32 ⌝ }
+    ensures { λ r. ⌜ r ≡ holderRight tasks (now (state .entry)) v ⌝ }
+{
+    if v == 0 {
+        return true;
+    }
+    if tasks < v {
+        return false;
+    }
+    let i = (v - 1) as usize;
+    if i < 32 { state[i] == 1 } else { false }
+}
+
+// Free and not counted, or held and counted. That a count is at most 255 is in its type.
+fn entries_fit(h: u8, n: u8) -> bool
+    ensures { λ r. ⌜ r ≡ entriesFit h n ⌝ }
+{
+    ((h == 0) & (n == 0)) | (!(h == 0) & !(n == 0))
+}
+
+// Every region's count fits its holder.
+pub fn entries_right<'a>(holder: &'a [u8; 16], entries: &'a [u8; 16]) -> bool
+    requires { ⌜ length (now holder) ≡ 16 ⌝ }
+    requires { ⌜ length (now entries) ≡ 16 ⌝ }
+    ensures { λ r. ⌜ r ≡ entriesEverywhere (now (holder .entry)) (now (entries .entry)) ⌝ }
+{
+    let mut ok = true;
+    for i in 0..16 {
+        let fits = entries_fit(holder[i], entries[i]);
+        ok = ok & fits;
+    }
+    ok
+}

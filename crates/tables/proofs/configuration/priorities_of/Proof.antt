@@ -1,0 +1,55 @@
+-- The array so far holds the priorities passed and zeros; each is a byte, and so a priority.
+use borrow.Author.Needs.{needs}
+use native.Mathlib.Omega.{arith}
+use Prim.Native.Nat.{_≤_, _-_}
+use mathlib.Core.Path.{_≡_, sym}
+use mathlib.Core.Bool.{true}
+use lib.Dec.{ltb}
+use lib.ListN.{take, getD}
+use borrow.Author.Tests.{lt-ltb}
+use Rattle.rules.specs.Words.{every}
+use Rattle.tables.proofs.Fills.{filled, filled-again, filled-end, every-again, every-end}
+use Rattle.tables.proofs.configuration.priorities_of.Statement.{statement}
+use Rattle.tables.proofs.configuration.priorities_of.Tie as tie
+
+abbrev Inv-loop : tie.InvT-loop
+Inv-loop tasks priorities out₀ i₀ out i = (i ≤ tasks) × (out ≡ filled 32 i priorities) × (true ≡ every (λ p. ltb p 256) (take i priorities))
+
+abbrev μ-loop : tie.MeasureT-loop
+μ-loop tasks priorities out₀ i₀ out i = tasks - i
+
+loop-holds : tie.Need-loop-holds Inv-loop μ-loop
+unfolding filled every
+loop-holds c = search needs
+
+shared-slice-read-out : tie.Need-shared-slice-read-out Inv-loop μ-loop
+shared-slice-read-out c = search needs
+
+array-write-out : tie.Need-array-write-out Inv-loop μ-loop
+array-write-out c = search needs
+
+add-i : tie.Need-add-i Inv-loop μ-loop
+add-i c = search needs
+
+loop-less : tie.Need-loop-less Inv-loop μ-loop
+loop-less c = search needs
+
+loop-again : tie.Need-loop-again Inv-loop μ-loop
+loop-again c = (search needs, filled-again _ _ _ _ (c .before .before .loop .inv .1) (search needs) (search needs), every-again (λ p. ltb p 256) (c .before .before .loop .i) (c .before .before .before .args .priorities .now) _ _ (c .before .before .loop .inv .2) (sym (lt-ltb (getD (c .before .before .before .args .priorities .now) (c .before .before .loop .i) 0) 256 (omega (arith, c .shared-slice-known .given (c .before .before .loop .i))))) (search needs))
+
+returns : tie.Need-returns Inv-loop μ-loop
+returns c = (filled-end _ _ _ _ (c .before .before .args .tasks) (c .before .loop .inv .1) (search needs) (search needs) (search needs), sym (every-end (λ p. ltb p 256) (c .before .loop .i) (c .before .before .args .priorities .now) (c .before .before .args .tasks) _ (c .before .loop .inv .2) (search needs) (search needs)))
+
+pub priorities-of-spec : {M : Type 1} → statement M
+priorities-of-spec =
+    tie.close
+    (tie.spec
+    Inv-loop
+    μ-loop
+    loop-holds
+    shared-slice-read-out
+    array-write-out
+    add-i
+    loop-less
+    loop-again
+    returns)

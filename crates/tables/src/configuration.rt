@@ -1,0 +1,146 @@
+// A fresh table from a configuration, and the table of zeros where the configuration is refused.
+use crate::counts::counts_right;
+use rules::Answer;
+use rules::Done;
+use rules::Table;
+use rules::Timer;
+ghost use mathlib.Core.Path.{_≡_};
+ghost use Rattle.rules.specs.Answers.{refused};
+ghost use Rattle.rules.specs.Fresh.{zeroTable, fresh as freshDone};
+ghost use Rattle.tables.specs.Fresh.{freshBy};
+ghost use mathlib.Core.Bool.{true};
+ghost use Prim.Native.Nat.{_≤_};
+ghost use lib.Dec.{ltb};
+ghost use lib.ListN.{length, take};
+ghost use Rattle.rules.specs.Words.{every, padded};
+ghost use Rattle.rules.specs.Validity.{boundInRange};
+
+// The table of zeros, which stands for a refused configuration.
+fn zero_table() -> Table
+    ensures { λ r. ⌜ r ≡ zeroTable ⌝ }
+{
+    Table {
+        tasks: 0,
+        regions: 0,
+        queues: 0,
+        elected: 0,
+        priority: [0; 32],
+        state: [0; 32],
+        arrived: [0; 32],
+        list: [0; 32],
+        operator: [0; 32],
+        holder: [0; 16],
+        entries: [0; 16],
+        bound: [0; 8],
+        length: [0; 8],
+        element: [0; 512],
+        criterion: [0; 512],
+        ticks: 0,
+        timers: [Timer {
+            armed: 0,
+            owner: 0,
+            event: 0,
+            date: 0,
+        }; 16],
+    }
+}
+
+fn out_of_range() -> Done
+    ensures { λ r. ⌜ r ≡ refused zeroTable 20 ⌝ }
+{
+    Done {
+        table: zero_table(),
+        answer: Answer {
+            status: 20,
+            value: 0,
+            key: 0,
+            elected: 255,
+        },
+    }
+}
+
+// Task 0 is ready and elected, the others are stopped, regions free, queues empty, timers idle and the counter 0.
+fn fresh_table(tasks: u8, regions: u8, queues: u8, priority: [u8; 32], bound: [u8; 8]) -> Table
+    ensures { λ r. ⌜ r ≡ freshBy tasks regions queues priority bound ⌝ }
+{
+    let mut t = zero_table();
+    t.tasks = tasks;
+    t.regions = regions;
+    t.queues = queues;
+    t.priority = priority;
+    t.state[0] = 1;
+    t.bound = bound;
+    t
+}
+
+// The first `tasks` priorities, and zeros behind them. That each is a priority is what their type says.
+fn priorities_of(tasks: usize, priorities: &[u8]) -> [u8; 32]
+    requires { ⌜ (tasks ≤ 32) × (tasks ≤ length (now priorities)) ⌝ }
+    ensures copied { λ r. ⌜ r ≡ padded 32 0 (take tasks (now (priorities .entry))) ⌝ }
+    ensures fit { λ r. ⌜ every (λ p. ltb p 256) (take tasks (now (priorities .entry))) ≡ true ⌝ }
+{
+    let mut out = [0u8; 32];
+    for i in 0..tasks {
+        out[i] = priorities[i];
+    }
+    out
+}
+
+// The first `queues` bounds, and zeros behind them.
+fn bounds_of(queues: usize, bounds: &[u8]) -> [u8; 8]
+    requires { ⌜ (queues ≤ 8) × (queues ≤ length (now bounds)) ⌝ }
+    ensures { λ r. ⌜ r ≡ padded 8 0 (take queues (now (bounds .entry))) ⌝ }
+{
+    let mut out = [0u8; 8];
+    for i in 0..queues {
+        out[i] = bounds[i];
+    }
+    out
+}
+
+fn bound_right(bound: u8) -> bool
+    ensures { λ r. ⌜ r ≡ boundInRange bound ⌝ }
+{
+    (0 < bound) & (bound <= 64)
+}
+
+// Each of the first `queues` bounds is 1 to 64.
+fn bounds_right(queues: usize, bounds: &[u8]) -> bool
+    requires { ⌜ queues ≤ length (now bounds) ⌝ }
+    ensures { λ r. ⌜ r ≡ every boundInRange (take queues (now (bounds .entry))) ⌝ }
+{
+    let mut ok = true;
+    for i in 0..queues {
+        ok = ok & bound_right(bounds[i]);
+    }
+    ok
+}
+
+// Lists longer than their counts are taken as far as the counts go; shorter ones are out of range.
+pub fn fresh<'a>(tasks: u8, regions: u8, queues: u8, priorities: &'a [u8], bounds: &'a [u8]) -> Done
+    ensures { λ r. ⌜ r ≡ freshDone tasks regions queues (now (priorities .entry)) (now (bounds .entry)) ⌝ }
+{
+    if !counts_right(tasks, regions, queues) {
+        return out_of_range();
+    }
+    if priorities.len() < (tasks as usize) {
+        return out_of_range();
+    }
+    if bounds.len() < (queues as usize) {
+        return out_of_range();
+    }
+    if !bounds_right(queues as usize, bounds) {
+        return out_of_range();
+    }
+    let priority = priorities_of(tasks as usize, priorities);
+    let bound = bounds_of(queues as usize, bounds);
+    Done {
+        table: fresh_table(tasks, regions, queues, priority, bound),
+        answer: Answer {
+            status: 0,
+            value: 0,
+            key: 0,
+            elected: 0,
+        },
+    }
+}

@@ -1,0 +1,97 @@
+// A table in two parts, its front and its store: taken apart, and put together again.
+use rules::Answer;
+use rules::Table;
+use rules::Timer;
+ghost use mathlib.Core.Path.{_≡_};
+ghost use Rattle.tables.specs.Fronts.{whole, frontOf};
+
+// A table without its store, the places of the queues: that part is small enough to go by value from call to call.
+pub struct Front {
+    pub tasks: u8,
+    pub regions: u8,
+    pub queues: u8,
+    pub elected: u8,
+    pub priority: [u8; 32],
+    pub state: [u8; 32],
+    pub arrived: [u16; 32],
+    pub list: [u16; 32],
+    pub operator: [u8; 32],
+    pub holder: [u8; 16],
+    pub entries: [u8; 16],
+    pub bound: [u8; 8],
+    pub length: [u8; 8],
+    pub ticks: u32,
+    pub timers: [Timer; 16],
+}
+
+// After a call on a lent store: the rest of the table, and the answer.
+pub struct FrontDone {
+    pub front: Front,
+    pub answer: Answer,
+}
+
+pub fn front_of(t: Table) -> Front
+    ensures { λ r. ⌜ r ≡ frontOf t ⌝ }
+{
+    let priority = t.priority;
+    let state = t.state;
+    let arrived = t.arrived;
+    let list = t.list;
+    let operator = t.operator;
+    let holder = t.holder;
+    let entries = t.entries;
+    let bound = t.bound;
+    let lengths = t.length;
+    let timers = t.timers;
+    Front {
+        tasks: t.tasks,
+        regions: t.regions,
+        queues: t.queues,
+        elected: t.elected,
+        priority: priority,
+        state: state,
+        arrived: arrived,
+        list: list,
+        operator: operator,
+        holder: holder,
+        entries: entries,
+        bound: bound,
+        length: lengths,
+        ticks: t.ticks,
+        timers: timers,
+    }
+}
+
+pub fn table_of(f: Front, element: [u32; 512], criterion: [u8; 512]) -> Table
+    ensures { λ r. ⌜ r ≡ whole f element criterion ⌝ }
+{
+    let priority = f.priority;
+    let state = f.state;
+    let arrived = f.arrived;
+    let list = f.list;
+    let operator = f.operator;
+    let holder = f.holder;
+    let entries = f.entries;
+    let bound = f.bound;
+    let lengths = f.length;
+    let timers = f.timers;
+    Table {
+        tasks: f.tasks,
+        regions: f.regions,
+        queues: f.queues,
+        elected: f.elected,
+        priority: priority,
+        state: state,
+        arrived: arrived,
+        list: list,
+        operator: operator,
+        holder: holder,
+        entries: entries,
+        bound: bound,
+        length: lengths,
+        element: element,
+        criterion: criterion,
+        ticks: f.ticks,
+        timers: timers,
+    }
+}

@@ -1,0 +1,56 @@
+// The check of the task columns: every task is right, and past the count it is a stopped one of priority 0, which is all 0.
+use crate::condition::met_by;
+ghost use mathlib.Core.Path.{_≡_};
+ghost use Rattle.rules.proofs.Validity.{rowRight, tasksRight};
+ghost use mathlib.Core.Bool.{_&&_};
+ghost use lib.ListN.{length, getD};
+ghost use Rattle.rules.specs.Numbers.{taskRoom};
+ghost use Rattle.rules.specs.Words.{isZero, past};
+
+// The priority is right by its type. There is no branch, so that the loop over all tasks vectorises.
+fn row_fits(priority: u8, state: u8, arrived: u16, list: u16, operator: u8) -> bool
+    ensures { λ r. ⌜ r ≡ rowRight priority state arrived list operator ⌝ }
+{
+    let met = met_by(operator, list, arrived);
+    let idle = (list == 0) & (operator == 0);
+    let stopped = (state == 0) & (arrived == 0);
+    let waiting = (state == 2) & ((list != 0) & ((operator < 2) & !met));
+    (idle & (stopped | (state == 1))) | waiting
+}
+
+// Past the count priority and state are 0. What else is 0 there is so of every stopped task.
+fn rest_zero<'a>(tasks: u8, priority: &'a [u8; 32], state: &'a [u8; 32]) -> bool
+    requires { ⌜ length (now priority) ≡ 32 ⌝ }
+    requires { ⌜ length (now state) ≡ 32 ⌝ }
+    ensures { λ r. ⌜ r ≡ past tasks taskRoom (λ i. isZero (getD (now (priority .entry)) i 0) && isZero (getD (now (state .entry)) i 0)) ⌝ }
+{
+    let mut ok = true;
+    for i in (tasks as usize)..32 {
+        ok = ok & ((priority[i] == 0) & (state[i] == 0));
+    }
+    ok
+}
+
+pub fn tasks_right<'a>(
+    tasks: u8,
+    priority: &'a [u8; 32],
+    state: &'a [u8; 32],
+    arrived: &'a [u16; 32],
+    list: &'a [u16; 32],
+    operator: &'a [u8; 32],
+) -> bool
+    requires { ⌜ length (now priority) ≡ 32 ⌝ }
+    requires { ⌜ length (now state) ≡ 32 ⌝ }
+    requires { ⌜ length (now arrived) ≡ 32 ⌝ }
+    requires { ⌜ length (now list) ≡ 32 ⌝ }
+    requires { ⌜ length (now operator) ≡ 32 ⌝ }
+    ensures { λ r. ⌜ r ≡ tasksRight tasks (now (priority .entry)) (now (state .entry)) (now (arrived .entry)) (now (list .entry)) (now (operator .entry)) ⌝ }
+{
+    let rest = rest_zero(tasks, priority, state);
+    let mut ok = true;
+    for i in 0..32 {
+        let fits = row_fits(priority[i], state[i], arrived[i], list[i], operator[i]);
+        ok = ok & fits;
+    }
+    ok & rest
+}
