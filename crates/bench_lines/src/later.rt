@@ -7,9 +7,11 @@ use frames::call_of;
 use lines::Line;
 use lines::line_from;
 use rules::Call;
+use rules::STORE;
 use tables::Front;
 use tables::FrontDone;
 ghost use mathlib.Core.Path.{_≡_};
+ghost use Rattle.rules.specs.Numbers.{storeSize};
 ghost use Rattle.bench_lines.specs.Steps.{nothingHeard, heard};
 ghost use mathlib.Core.Bool.{true};
 ghost use Rattle.frames.specs.CallLine.{callLineAt};
@@ -118,11 +120,11 @@ pub fn line_told(
     f: Front,
     ok: bool,
     h: Heard,
-    element: &mut [u32; 512],
-    criterion: &mut [u8; 512],
+    element: &mut [u32; STORE],
+    criterion: &mut [u8; STORE],
 ) -> FrontDone
-    requires { ⌜ length (now element) ≡ 512 ⌝ }
-    requires { ⌜ length (now criterion) ≡ 512 ⌝ }
+    requires { ⌜ length (now element) ≡ storeSize ⌝ }
+    requires { ⌜ length (now criterion) ≡ storeSize ⌝ }
     ensures front { λ r. ⌜ r ≡ frontDone (heardTold ok (whole f (now (element .entry)) (now (criterion .entry))) h) ⌝ }
     ensures elements { λ _. ⌜ now (element .exit) ≡ heardTold ok (whole f (now (element .entry)) (now (criterion .entry))) h .table .element ⌝ }
     ensures criteria { λ _. ⌜ now (criterion .exit) ≡ heardTold ok (whole f (now (element .entry)) (now (criterion .entry))) h .table .criterion ⌝ }

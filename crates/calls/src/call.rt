@@ -9,11 +9,13 @@ use refusals::refusal_of;
 use refusals::reported_by;
 use rules::Answer;
 use rules::Call;
+use rules::STORE;
 use tables::Front;
 use tables::FrontDone;
 use validity::front_valid;
 ghost use mathlib.Core.Path.{_≡_};
 ghost use lib.ListN.{length};
+ghost use Rattle.rules.specs.Numbers.{storeSize};
 ghost use Rattle.tables.specs.Fronts.{whole, frontDone};
 ghost use Rattle.calls.specs.Told.{stepTold};
 ghost use Rattle.rules.specs.Step.{step};
@@ -25,11 +27,11 @@ pub fn call_told(
     f: Front,
     ok: bool,
     k: Call,
-    element: &mut [u32; 512],
-    criterion: &mut [u8; 512],
+    element: &mut [u32; STORE],
+    criterion: &mut [u8; STORE],
 ) -> FrontDone
-    requires { ⌜ length (now element) ≡ 512 ⌝ }
-    requires { ⌜ length (now criterion) ≡ 512 ⌝ }
+    requires { ⌜ length (now element) ≡ storeSize ⌝ }
+    requires { ⌜ length (now criterion) ≡ storeSize ⌝ }
     ensures front { λ r. ⌜ r ≡ frontDone (stepTold ok (whole f (now (element .entry)) (now (criterion .entry))) k) ⌝ }
     ensures elements { λ _. ⌜ now (element .exit) ≡ stepTold ok (whole f (now (element .entry)) (now (criterion .entry))) k .table .element ⌝ }
     ensures criteria { λ _. ⌜ now (criterion .exit) ≡ stepTold ok (whole f (now (element .entry)) (now (criterion .entry))) k .table .criterion ⌝ }
@@ -83,11 +85,11 @@ pub fn call_told(
 pub fn call_checked(
     f: Front,
     k: Call,
-    element: &mut [u32; 512],
-    criterion: &mut [u8; 512],
+    element: &mut [u32; STORE],
+    criterion: &mut [u8; STORE],
 ) -> FrontDone
-    requires { ⌜ length (now element) ≡ 512 ⌝ }
-    requires { ⌜ length (now criterion) ≡ 512 ⌝ }
+    requires { ⌜ length (now element) ≡ storeSize ⌝ }
+    requires { ⌜ length (now criterion) ≡ storeSize ⌝ }
     ensures front { λ r. ⌜ r ≡ frontDone (step (whole f (now (element .entry)) (now (criterion .entry))) k) ⌝ }
     ensures elements { λ _. ⌜ now (element .exit) ≡ step (whole f (now (element .entry)) (now (criterion .entry))) k .table .element ⌝ }
     ensures criteria { λ _. ⌜ now (criterion .exit) ≡ step (whole f (now (element .entry)) (now (criterion .entry))) k .table .criterion ⌝ }

@@ -4,21 +4,23 @@ use queues::close_elements;
 use queues::place_of;
 use rules::Answer;
 use rules::Call;
+use rules::STORE;
 use tables::Front;
 use tables::FrontDone;
 ghost use mathlib.Core.Path.{_≡_};
 ghost use lib.ListN.{length};
+ghost use Rattle.rules.specs.Numbers.{storeSize};
 ghost use Rattle.tables.specs.Fronts.{whole, frontDone};
 ghost use Rattle.calls.specs.QueueMade.{sendMade, retrieveMade};
 
 pub(crate) fn send_call(
     mut t: Front,
     k: Call,
-    element: &mut [u32; 512],
-    criterion: &mut [u8; 512],
+    element: &mut [u32; STORE],
+    criterion: &mut [u8; STORE],
 ) -> FrontDone
-    requires { ⌜ length (now element) ≡ 512 ⌝ }
-    requires { ⌜ length (now criterion) ≡ 512 ⌝ }
+    requires { ⌜ length (now element) ≡ storeSize ⌝ }
+    requires { ⌜ length (now criterion) ≡ storeSize ⌝ }
     ensures front { λ r. ⌜ r ≡ frontDone (sendMade (whole t (now (element .entry)) (now (criterion .entry))) k) ⌝ }
     ensures elements { λ _. ⌜ now (element .exit) ≡ sendMade (whole t (now (element .entry)) (now (criterion .entry))) k .table .element ⌝ }
     ensures criteria { λ _. ⌜ now (criterion .exit) ≡ sendMade (whole t (now (element .entry)) (now (criterion .entry))) k .table .criterion ⌝ }
@@ -43,11 +45,11 @@ pub(crate) fn send_call(
 pub(crate) fn retrieve_call(
     mut t: Front,
     k: Call,
-    element: &mut [u32; 512],
-    criterion: &mut [u8; 512],
+    element: &mut [u32; STORE],
+    criterion: &mut [u8; STORE],
 ) -> FrontDone
-    requires { ⌜ length (now element) ≡ 512 ⌝ }
-    requires { ⌜ length (now criterion) ≡ 512 ⌝ }
+    requires { ⌜ length (now element) ≡ storeSize ⌝ }
+    requires { ⌜ length (now criterion) ≡ storeSize ⌝ }
     ensures front { λ r. ⌜ r ≡ frontDone (retrieveMade (whole t (now (element .entry)) (now (criterion .entry))) k) ⌝ }
     ensures elements { λ _. ⌜ now (element .exit) ≡ retrieveMade (whole t (now (element .entry)) (now (criterion .entry))) k .table .element ⌝ }
     ensures criteria { λ _. ⌜ now (criterion .exit) ≡ retrieveMade (whole t (now (element .entry)) (now (criterion .entry))) k .table .criterion ⌝ }

@@ -1,4 +1,5 @@
 // Election: the ready task of smallest priority number, and of equals the lowest task number.
+use rules::TASKS;
 ghost use mathlib.Core.Path.{_≡_};
 ghost use mathlib.Core.Bool.{cond, _&&_};
 ghost use Prim.Native.Nat.{_+_, _^_, _<_, _≤_, min};
@@ -34,13 +35,13 @@ fn lesser(state: u8, priority: u8, p: u16) -> u16
 }
 
 // The smallest priority number of a ready task, 256 where none is ready.
-fn smallest_of<'a>(state: &'a [u8; 32], priority: &'a [u8; 32]) -> u16
-    requires { ⌜ length (now state) ≡ 32 ⌝ }
-    requires { ⌜ length (now priority) ≡ 32 ⌝ }
+fn smallest_of<'a>(state: &'a [u8; TASKS], priority: &'a [u8; TASKS]) -> u16
+    requires { ⌜ length (now state) ≡ taskRoom ⌝ }
+    requires { ⌜ length (now priority) ≡ taskRoom ⌝ }
     ensures { λ r. ⌜ r ≡ smallest taskRoom (readyAt (now (state .entry))) (priorityAt (now (priority .entry))) ⌝ }
 {
     let mut p: u16 = 256;
-    for i in 0..32 {
+    for i in 0..TASKS {
         p = lesser(state[i], priority[i], p);
     }
     p
@@ -63,14 +64,14 @@ fn bit_of(set: bool, i: u32) -> u32
 }
 
 // The ready tasks of priority p, as bits.
-fn word_of<'a>(state: &'a [u8; 32], priority: &'a [u8; 32], p: u16) -> u32
-    requires { ⌜ length (now state) ≡ 32 ⌝ }
-    requires { ⌜ length (now priority) ≡ 32 ⌝ }
+fn word_of<'a>(state: &'a [u8; TASKS], priority: &'a [u8; TASKS], p: u16) -> u32
+    requires { ⌜ length (now state) ≡ taskRoom ⌝ }
+    requires { ⌜ length (now priority) ≡ taskRoom ⌝ }
     requires { ⌜ p ≤ 256 ⌝ }
     ensures { λ r. ⌜ r ≡ word taskRoom (λ i. readyAt (now (state .entry)) i && eqb (priorityAt (now (priority .entry)) i) p) ⌝ }
 {
     let mut w: u32 = 0;
-    for i in 0..32 {
+    for i in 0..TASKS {
         w = w | bit_of(has_it(state[i], priority[i], p), i as u32);
     }
     w
@@ -84,9 +85,9 @@ fn lowest_bit(w: u32) -> u32
 }
 
 // The lowest number of a ready task of priority p, 255 where there is none: the empty word has no bit, and would give 32.
-fn lowest_of<'a>(state: &'a [u8; 32], priority: &'a [u8; 32], p: u16) -> u8
-    requires { ⌜ length (now state) ≡ 32 ⌝ }
-    requires { ⌜ length (now priority) ≡ 32 ⌝ }
+fn lowest_of<'a>(state: &'a [u8; TASKS], priority: &'a [u8; TASKS], p: u16) -> u8
+    requires { ⌜ length (now state) ≡ taskRoom ⌝ }
+    requires { ⌜ length (now priority) ≡ taskRoom ⌝ }
     requires { ⌜ p ≤ 256 ⌝ }
     ensures { λ r. ⌜ r ≡ lowest taskRoom (λ i. readyAt (now (state .entry)) i && eqb (priorityAt (now (priority .entry)) i) p) ⌝ }
 {
@@ -97,9 +98,9 @@ fn lowest_of<'a>(state: &'a [u8; 32], priority: &'a [u8; 32], p: u16) -> u8
     lowest_bit(w) as u8
 }
 
-fn best_ready<'a>(state: &'a [u8; 32], priority: &'a [u8; 32]) -> u8
-    requires { ⌜ length (now state) ≡ 32 ⌝ }
-    requires { ⌜ length (now priority) ≡ 32 ⌝ }
+fn best_ready<'a>(state: &'a [u8; TASKS], priority: &'a [u8; TASKS]) -> u8
+    requires { ⌜ length (now state) ≡ taskRoom ⌝ }
+    requires { ⌜ length (now priority) ≡ taskRoom ⌝ }
     ensures { λ r. ⌜ r ≡ bestReady (now (state .entry)) (now (priority .entry)) ⌝ }
 {
     let p = smallest_of(state, priority);
@@ -107,9 +108,9 @@ fn best_ready<'a>(state: &'a [u8; 32], priority: &'a [u8; 32]) -> u8
 }
 
 // The holder behind the entry v, if there is one; else the best ready task.
-pub fn elected_by<'a>(v: u8, state: &'a [u8; 32], priority: &'a [u8; 32]) -> u8
-    requires { ⌜ length (now state) ≡ 32 ⌝ }
-    requires { ⌜ length (now priority) ≡ 32 ⌝ }
+pub fn elected_by<'a>(v: u8, state: &'a [u8; TASKS], priority: &'a [u8; TASKS]) -> u8
+    requires { ⌜ length (now state) ≡ taskRoom ⌝ }
+    requires { ⌜ length (now priority) ≡ taskRoom ⌝ }
     ensures { λ r. ⌜ r ≡ electedBy v (now (state .entry)) (now (priority .entry)) ⌝ }
 {
     if v == 0 {

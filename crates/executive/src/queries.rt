@@ -4,11 +4,13 @@ use crate::reply::object_status;
 use crate::reply::one_if;
 use crate::reply::reply_of;
 use rules::Answer;
+use rules::TASKS;
 use rules::Table;
 use tables::byte_at;
 use tasks::met_by;
 use validity::is_valid;
 ghost use mathlib.Core.Path.{_≡_};
+ghost use Rattle.rules.specs.Numbers.{taskRoom};
 ghost use Rattle.rules.specs.Queries.{emptyQuery, fullQuery, arrivedQuery, priorityQuery, stateQuery};
 ghost use lib.ListN.{length, getD};
 
@@ -34,8 +36,8 @@ pub fn full(t: Table, queue: u32) -> Answer
 }
 
 // The events of a task, none for one that does not exist.
-fn events_at(arrived: &[u16; 32], i: u8) -> u16
-    requires { ⌜ length (now arrived) ≡ 32 ⌝ }
+fn events_at(arrived: &[u16; TASKS], i: u8) -> u16
+    requires { ⌜ length (now arrived) ≡ taskRoom ⌝ }
     ensures { λ r. ⌜ r ≡ getD (now (arrived .entry)) i 0 ⌝ }
 {
     let at = i as usize;

@@ -16,6 +16,7 @@ use packing::put_bytes;
 use packing::put_halves;
 use packing::put_timers;
 use packing::put_words;
+use rules::TIMERS;
 use rules::Timer;
 use tables::Front;
 ghost use mathlib.Core.Path.{_≡_};
@@ -74,7 +75,7 @@ fn put_head(block: &mut [u8], f: Front)
 }
 
 // All that stands behind it.
-fn put_tail(block: &mut [u8], ticks: u32, timers: [Timer; 16])
+fn put_tail(block: &mut [u8], ticks: u32, timers: [Timer; TIMERS])
     ensures { λ _. ⌜ now (block .exit) ≡ tailPut ticks timers (now (block .entry)) ⌝ }
 {
     let counter = [ticks];

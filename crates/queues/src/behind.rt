@@ -46,7 +46,7 @@ fn later_of(a: usize, b: usize) -> usize
 // Four stretches of 16 places cover them, and may overlap: their length is known beforehand, so that they compile to a row of packed
 // instructions without a loop. Only a queue with fewer than 16 places behind it is scanned place by place.
 pub(crate) fn elements_behind(element: &[u32; STORE], q: usize, n: u8) -> bool
-    requires { ⌜ length (now element) ≡ 512 ⌝ }
+    requires { ⌜ length (now element) ≡ storeSize ⌝ }
     ensures { λ r. ⌜ r ≡ every isZero (behind (q % queueRoom) n (now (element .entry))) ⌝ }
 {
     let start = q % QUEUES * PLACES;
@@ -67,7 +67,7 @@ pub(crate) fn elements_behind(element: &[u32; STORE], q: usize, n: u8) -> bool
 
 // The same for criteria.
 pub(crate) fn criteria_behind(criterion: &[u8; STORE], q: usize, n: u8) -> bool
-    requires { ⌜ length (now criterion) ≡ 512 ⌝ }
+    requires { ⌜ length (now criterion) ≡ storeSize ⌝ }
     ensures { λ r. ⌜ r ≡ every isZero (behind (q % queueRoom) n (now (criterion .entry))) ⌝ }
 {
     let start = q % QUEUES * PLACES;

@@ -47,10 +47,10 @@ pub fn queues_right<'a>(
     element: &'a [u32; STORE],
     criterion: &'a [u8; STORE],
 ) -> bool
-    requires { ⌜ length (now bound) ≡ 8 ⌝ }
-    requires { ⌜ length (now lengths) ≡ 8 ⌝ }
-    requires { ⌜ length (now element) ≡ 512 ⌝ }
-    requires { ⌜ length (now criterion) ≡ 512 ⌝ }
+    requires { ⌜ length (now bound) ≡ queueRoom ⌝ }
+    requires { ⌜ length (now lengths) ≡ queueRoom ⌝ }
+    requires { ⌜ length (now element) ≡ storeSize ⌝ }
+    requires { ⌜ length (now criterion) ≡ storeSize ⌝ }
     ensures { λ r. ⌜ r ≡ queuesRight queues (now (bound .entry)) (now (lengths .entry)) (now (element .entry)) (now (criterion .entry)) ⌝ }
 {
     let mut right = true;
@@ -63,7 +63,7 @@ pub fn queues_right<'a>(
 
 // Whether every stored criterion is in range. 16 is a power of two: joined bits reach it only where an entry does.
 pub fn criteria_right(criterion: &[u8; STORE]) -> bool
-    requires { ⌜ length (now criterion) ≡ 512 ⌝ }
+    requires { ⌜ length (now criterion) ≡ storeSize ⌝ }
     ensures { λ r. ⌜ r ≡ criteriaInRange (now (criterion .entry)) ⌝ }
 {
     let mut bits: u8 = 0;

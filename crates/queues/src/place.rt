@@ -59,7 +59,7 @@ fn oldest_of(criterion: &[u8; STORE], from: usize, to: usize, c: u32) -> usize
 
 // The place of the oldest element that RETRIEVE with criterion c takes among those at from..to, and `to` where none fits.
 pub fn place_of(criterion: &[u8; STORE], from: usize, to: usize, c: u32) -> usize
-    requires { ⌜ length (now criterion) ≡ 512 ⌝ }
+    requires { ⌜ length (now criterion) ≡ storeSize ⌝ }
     ensures { λ r. ⌜ r ≡ placeIn from to c (now (criterion .entry)) ⌝ }
 {
     if from <= to && to <= STORE {

@@ -5,15 +5,21 @@ use crate::numbers::missing_of;
 use crate::queue_reasons::queue_reason_of;
 use crate::task_reasons::task_reason_of;
 use rules::Call;
+use rules::QUEUES;
+use rules::REGIONS;
+use rules::STORE;
+use rules::TASKS;
+use rules::TIMERS;
 use rules::Timer;
 use timers::others_at;
 ghost use mathlib.Core.Path.{_≡_};
 ghost use lib.ListN.{length};
+ghost use Rattle.rules.specs.Numbers.{taskRoom, regionRoom, queueRoom, storeSize};
 ghost use Rattle.rules.specs.Words.{first};
 ghost use Rattle.refusals.specs.Late.{timerFlags, lateFlags, refusalBy};
 
 // 15 of the calls about timers: ARM and DISARM of one that another task has armed.
-fn timer_reason_of(timers: [Timer; 16], k: Call) -> u8
+fn timer_reason_of(timers: [Timer; TIMERS], k: Call) -> u8
     ensures { λ r. ⌜ r ≡ first (timerFlags timers k) ⌝ }
 {
     let others = others_at(timers, k.caller, k.a);
@@ -26,21 +32,21 @@ fn late_of<'a>(
     tasks: u8,
     regions: u8,
     queues: u8,
-    state: &'a [u8; 32],
-    holder: &'a [u8; 16],
-    entries: &'a [u8; 16],
-    bound: &'a [u8; 8],
-    lengths: &'a [u8; 8],
-    criterion: &'a [u8; 512],
-    timers: [Timer; 16],
+    state: &'a [u8; TASKS],
+    holder: &'a [u8; REGIONS],
+    entries: &'a [u8; REGIONS],
+    bound: &'a [u8; QUEUES],
+    lengths: &'a [u8; QUEUES],
+    criterion: &'a [u8; STORE],
+    timers: [Timer; TIMERS],
     k: Call,
 ) -> u8
-    requires { ⌜ length (now state) ≡ 32 ⌝ }
-    requires { ⌜ length (now holder) ≡ 16 ⌝ }
-    requires { ⌜ length (now entries) ≡ 16 ⌝ }
-    requires { ⌜ length (now bound) ≡ 8 ⌝ }
-    requires { ⌜ length (now lengths) ≡ 8 ⌝ }
-    requires { ⌜ length (now criterion) ≡ 512 ⌝ }
+    requires { ⌜ length (now state) ≡ taskRoom ⌝ }
+    requires { ⌜ length (now holder) ≡ regionRoom ⌝ }
+    requires { ⌜ length (now entries) ≡ regionRoom ⌝ }
+    requires { ⌜ length (now bound) ≡ queueRoom ⌝ }
+    requires { ⌜ length (now lengths) ≡ queueRoom ⌝ }
+    requires { ⌜ length (now criterion) ≡ storeSize ⌝ }
     ensures { λ r. ⌜ r ≡ first (lateFlags tasks regions queues (now (state .entry)) (now (holder .entry)) (now (entries .entry)) (now (bound .entry)) (now (lengths .entry)) (now (criterion .entry)) timers k) ⌝ }
 {
     if missing_of(tasks, regions, queues, k) {
@@ -62,21 +68,21 @@ pub fn refusal_of<'a>(
     regions: u8,
     queues: u8,
     elected: u8,
-    state: &'a [u8; 32],
-    holder: &'a [u8; 16],
-    entries: &'a [u8; 16],
-    bound: &'a [u8; 8],
-    lengths: &'a [u8; 8],
-    criterion: &'a [u8; 512],
-    timers: [Timer; 16],
+    state: &'a [u8; TASKS],
+    holder: &'a [u8; REGIONS],
+    entries: &'a [u8; REGIONS],
+    bound: &'a [u8; QUEUES],
+    lengths: &'a [u8; QUEUES],
+    criterion: &'a [u8; STORE],
+    timers: [Timer; TIMERS],
     k: Call,
 ) -> u8
-    requires { ⌜ length (now state) ≡ 32 ⌝ }
-    requires { ⌜ length (now holder) ≡ 16 ⌝ }
-    requires { ⌜ length (now entries) ≡ 16 ⌝ }
-    requires { ⌜ length (now bound) ≡ 8 ⌝ }
-    requires { ⌜ length (now lengths) ≡ 8 ⌝ }
-    requires { ⌜ length (now criterion) ≡ 512 ⌝ }
+    requires { ⌜ length (now state) ≡ taskRoom ⌝ }
+    requires { ⌜ length (now holder) ≡ regionRoom ⌝ }
+    requires { ⌜ length (now entries) ≡ regionRoom ⌝ }
+    requires { ⌜ length (now bound) ≡ queueRoom ⌝ }
+    requires { ⌜ length (now lengths) ≡ queueRoom ⌝ }
+    requires { ⌜ length (now criterion) ≡ storeSize ⌝ }
     ensures { λ r. ⌜ r ≡ refusalBy ok tasks regions queues elected (now (state .entry)) (now (holder .entry)) (now (entries .entry)) (now (bound .entry)) (now (lengths .entry)) (now (criterion .entry)) timers k ⌝ }
 {
     let early = early_of(ok, elected, k);

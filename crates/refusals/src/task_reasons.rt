@@ -3,19 +3,22 @@ use crate::first_reason::pick;
 use crate::numbers::leaves_of;
 use regions::held_by;
 use rules::Call;
+use rules::REGIONS;
+use rules::TASKS;
 use tables::byte_at;
 ghost use mathlib.Core.Path.{_≡_};
 ghost use mathlib.Core.Bool.{not, _&&_};
 ghost use lib.Dec.{eqb};
 ghost use lib.ListN.{length};
+ghost use Rattle.rules.specs.Numbers.{taskRoom, regionRoom};
 ghost use Rattle.rules.specs.Words.{isZero, first};
 ghost use Rattle.rules.specs.Regions.{held};
 ghost use Rattle.rules.specs.Refusals.{leaves, entriesFull};
 ghost use Rattle.refusals.specs.TaskFlags.{wrongTask, taskFlags};
 
 // 15 of the calls about tasks: START of a task not stopped, STOP or SIGNAL of a stopped one.
-fn wrong_task_of(state: &[u8; 32], k: Call) -> bool
-    requires { ⌜ length (now state) ≡ 32 ⌝ }
+fn wrong_task_of(state: &[u8; TASKS], k: Call) -> bool
+    requires { ⌜ length (now state) ≡ taskRoom ⌝ }
     ensures { λ r. ⌜ r ≡ wrongTask (now (state .entry)) k ⌝ }
 {
     let operation = k.operation;
@@ -25,8 +28,8 @@ fn wrong_task_of(state: &[u8; 32], k: Call) -> bool
 }
 
 // 16: WAIT, END or STOP of oneself while a region is occupied. No other call looks at the regions.
-fn inside_of(holder: &[u8; 16], k: Call) -> bool
-    requires { ⌜ length (now holder) ≡ 16 ⌝ }
+fn inside_of(holder: &[u8; REGIONS], k: Call) -> bool
+    requires { ⌜ length (now holder) ≡ regionRoom ⌝ }
     ensures { λ r. ⌜ r ≡ (leaves k && not (isZero (held (now (holder .entry))))) ⌝ }
 {
     if leaves_of(k) {
@@ -36,8 +39,8 @@ fn inside_of(holder: &[u8; 16], k: Call) -> bool
 }
 
 // 22: ENTER of a region whose count is at its end.
-fn deepest_of(entries: &[u8; 16], k: Call) -> bool
-    requires { ⌜ length (now entries) ≡ 16 ⌝ }
+fn deepest_of(entries: &[u8; REGIONS], k: Call) -> bool
+    requires { ⌜ length (now entries) ≡ regionRoom ⌝ }
     ensures { λ r. ⌜ r ≡ (eqb (k .operation) 6 && entriesFull (now (entries .entry)) (k .a)) ⌝ }
 {
     let n = byte_at(entries, k.a as usize);
@@ -46,14 +49,14 @@ fn deepest_of(entries: &[u8; 16], k: Call) -> bool
 
 // 19, 15, 16 and 22: what is left to ask of a call that is about tasks or regions.
 pub(crate) fn task_reason_of<'a>(
-    state: &'a [u8; 32],
-    holder: &'a [u8; 16],
-    entries: &'a [u8; 16],
+    state: &'a [u8; TASKS],
+    holder: &'a [u8; REGIONS],
+    entries: &'a [u8; REGIONS],
     k: Call,
 ) -> u8
-    requires { ⌜ length (now state) ≡ 32 ⌝ }
-    requires { ⌜ length (now holder) ≡ 16 ⌝ }
-    requires { ⌜ length (now entries) ≡ 16 ⌝ }
+    requires { ⌜ length (now state) ≡ taskRoom ⌝ }
+    requires { ⌜ length (now holder) ≡ regionRoom ⌝ }
+    requires { ⌜ length (now entries) ≡ regionRoom ⌝ }
     ensures { λ r. ⌜ r ≡ first (taskFlags (now (state .entry)) (now (holder .entry)) (now (entries .entry)) k) ⌝ }
 {
     let r22 = pick(deepest_of(entries, k), 22, 0);

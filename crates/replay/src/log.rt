@@ -2,11 +2,13 @@
 use calls::call_told;
 use packing::answer_number;
 use rules::Call;
+use rules::STORE;
 use tables::Front;
 use validity::front_valid;
 ghost use mathlib.Core.Path.{_≡_};
 ghost use Prim.Native.Nat.{_+_, _*_, _≤_, _<_, min};
 ghost use lib.ListN.{length};
+ghost use Rattle.rules.specs.Numbers.{storeSize};
 ghost use Rattle.rules.specs.Validity.{valid};
 ghost use Rattle.tables.specs.Fronts.{whole, frontOf};
 ghost use Rattle.replay.specs.Log.{callAt, replayed, laps, logged};
@@ -43,11 +45,11 @@ fn known_or_seen<'a>(
     each: bool,
     known: bool,
     f: Front,
-    element: &'a [u32; 512],
-    criterion: &'a [u8; 512],
+    element: &'a [u32; STORE],
+    criterion: &'a [u8; STORE],
 ) -> bool
-    requires { ⌜ length (now element) ≡ 512 ⌝ }
-    requires { ⌜ length (now criterion) ≡ 512 ⌝ }
+    requires { ⌜ length (now element) ≡ storeSize ⌝ }
+    requires { ⌜ length (now criterion) ≡ storeSize ⌝ }
     requires { ⌜ known ≡ valid (whole f (now element) (now criterion)) ⌝ }
     ensures { λ r. ⌜ r ≡ known ⌝ }
 {
@@ -64,12 +66,12 @@ fn run_lent<'a>(
     n: usize,
     each: bool,
     log: &'a [u32],
-    element: &mut [u32; 512],
-    criterion: &mut [u8; 512],
+    element: &mut [u32; STORE],
+    criterion: &mut [u8; STORE],
     answers: &mut [u64],
 ) -> Front
-    requires { ⌜ length (now element) ≡ 512 ⌝ }
-    requires { ⌜ length (now criterion) ≡ 512 ⌝ }
+    requires { ⌜ length (now element) ≡ storeSize ⌝ }
+    requires { ⌜ length (now criterion) ≡ storeSize ⌝ }
     requires { ⌜ 5 * n ≤ length (now log) ⌝ }
     requires { ⌜ n ≤ length (now answers) ⌝ }
     ensures front { λ r. ⌜ r ≡ frontOf (replayed (whole f (now (element .entry)) (now (criterion .entry))) (now (log .entry)) (now (answers .entry)) n .table) ⌝ }
@@ -94,12 +96,12 @@ pub(crate) fn run_log<'a>(
     f: Front,
     each: bool,
     log: &'a [u32],
-    element: &mut [u32; 512],
-    criterion: &mut [u8; 512],
+    element: &mut [u32; STORE],
+    criterion: &mut [u8; STORE],
     answers: &mut [u64],
 ) -> LogRun
-    requires { ⌜ length (now element) ≡ 512 ⌝ }
-    requires { ⌜ length (now criterion) ≡ 512 ⌝ }
+    requires { ⌜ length (now element) ≡ storeSize ⌝ }
+    requires { ⌜ length (now criterion) ≡ storeSize ⌝ }
     ensures count { λ r. ⌜ r .count ≡ laps (now (log .entry)) (now (answers .entry)) ⌝ }
     ensures front { λ r. ⌜ r .front ≡ frontOf (logged (whole f (now (element .entry)) (now (criterion .entry))) (now (log .entry)) (now (answers .entry)) .table) ⌝ }
     ensures elements { λ _. ⌜ now (element .exit) ≡ logged (whole f (now (element .entry)) (now (criterion .entry))) (now (log .entry)) (now (answers .entry)) .table .element ⌝ }

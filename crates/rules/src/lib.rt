@@ -14,6 +14,56 @@ pub const PLACES: usize = 64;
 
 pub const STORE: usize = 512;
 
+// Events of a task, and criteria of an element: their numbers lie below these.
+pub const EVENTS: u32 = 16;
+
+pub const CRITERIA: u32 = 16;
+
+// For RETRIEVE: the largest criterion present.
+pub const LARGEST_PRESENT: u32 = 16;
+
+// The longest delay of a timer.
+pub const LONGEST_DELAY: u32 = 2147483647;
+
+// Who calls from the outside; and the elected task where none is ready.
+pub const OUTSIDE: u8 = 255;
+
+pub const NOBODY: u8 = 255;
+
+// The states of a task.
+pub const STOPPED: u8 = 0;
+
+pub const READY: u8 = 1;
+
+pub const WAITING: u8 = 2;
+
+// The thirteen operations.
+pub const START: u8 = 0;
+
+pub const STOP: u8 = 1;
+
+pub const END: u8 = 2;
+
+pub const SIGNAL: u8 = 3;
+
+pub const WAIT: u8 = 4;
+
+pub const CLEAR: u8 = 5;
+
+pub const ENTER: u8 = 6;
+
+pub const EXIT: u8 = 7;
+
+pub const SEND: u8 = 8;
+
+pub const RETRIEVE: u8 = 9;
+
+pub const ARM: u8 = 10;
+
+pub const DISARM: u8 = 11;
+
+pub const TICK: u8 = 12;
+
 // What a call may change of a task; its priority is configured and stays. The state is 0 stopped, 1 ready, 2 waiting;
 // bit i of `arrived` and `list` stands for event i.
 pub struct Task {

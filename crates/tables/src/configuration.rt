@@ -2,6 +2,11 @@
 use crate::counts::counts_right;
 use rules::Answer;
 use rules::Done;
+use rules::QUEUES;
+use rules::REGIONS;
+use rules::STORE;
+use rules::TASKS;
+use rules::TIMERS;
 use rules::Table;
 use rules::Timer;
 ghost use mathlib.Core.Path.{_≡_};
@@ -24,24 +29,24 @@ fn zero_table() -> Table
         regions: 0,
         queues: 0,
         elected: 0,
-        priority: [0; 32],
-        state: [0; 32],
-        arrived: [0; 32],
-        list: [0; 32],
-        operator: [0; 32],
-        holder: [0; 16],
-        entries: [0; 16],
-        bound: [0; 8],
-        length: [0; 8],
-        element: [0; 512],
-        criterion: [0; 512],
+        priority: [0; TASKS],
+        state: [0; TASKS],
+        arrived: [0; TASKS],
+        list: [0; TASKS],
+        operator: [0; TASKS],
+        holder: [0; REGIONS],
+        entries: [0; REGIONS],
+        bound: [0; QUEUES],
+        length: [0; QUEUES],
+        element: [0; STORE],
+        criterion: [0; STORE],
         ticks: 0,
         timers: [Timer {
             armed: 0,
             owner: 0,
             event: 0,
             date: 0,
-        }; 16],
+        }; TIMERS],
     }
 }
 
@@ -60,7 +65,13 @@ fn out_of_range() -> Done
 }
 
 // Task 0 is ready and elected, the others are stopped, regions free, queues empty, timers idle and the counter 0.
-fn fresh_table(tasks: u8, regions: u8, queues: u8, priority: [u8; 32], bound: [u8; 8]) -> Table
+fn fresh_table(
+    tasks: u8,
+    regions: u8,
+    queues: u8,
+    priority: [u8; TASKS],
+    bound: [u8; QUEUES],
+) -> Table
     ensures { λ r. ⌜ r ≡ freshBy tasks regions queues priority bound ⌝ }
 {
     let mut t = zero_table();
@@ -74,12 +85,12 @@ fn fresh_table(tasks: u8, regions: u8, queues: u8, priority: [u8; 32], bound: [u
 }
 
 // The first `tasks` priorities, and zeros behind them. That each is a priority is what their type says.
-fn priorities_of(tasks: usize, priorities: &[u8]) -> [u8; 32]
+fn priorities_of(tasks: usize, priorities: &[u8]) -> [u8; TASKS]
     requires { ⌜ (tasks ≤ 32) × (tasks ≤ length (now priorities)) ⌝ }
     ensures copied { λ r. ⌜ r ≡ padded 32 0 (take tasks (now (priorities .entry))) ⌝ }
     ensures fit { λ r. ⌜ every (λ p. ltb p 256) (take tasks (now (priorities .entry))) ≡ true ⌝ }
 {
-    let mut out = [0u8; 32];
+    let mut out = [0u8; TASKS];
     for i in 0..tasks {
         out[i] = priorities[i];
     }
@@ -87,11 +98,11 @@ fn priorities_of(tasks: usize, priorities: &[u8]) -> [u8; 32]
 }
 
 // The first `queues` bounds, and zeros behind them.
-fn bounds_of(queues: usize, bounds: &[u8]) -> [u8; 8]
+fn bounds_of(queues: usize, bounds: &[u8]) -> [u8; QUEUES]
     requires { ⌜ (queues ≤ 8) × (queues ≤ length (now bounds)) ⌝ }
     ensures { λ r. ⌜ r ≡ padded 8 0 (take queues (now (bounds .entry))) ⌝ }
 {
-    let mut out = [0u8; 8];
+    let mut out = [0u8; QUEUES];
     for i in 0..queues {
         out[i] = bounds[i];
     }

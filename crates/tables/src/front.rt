@@ -1,5 +1,10 @@
 // A table in two parts, its front and its store: taken apart, and put together again.
 use rules::Answer;
+use rules::QUEUES;
+use rules::REGIONS;
+use rules::STORE;
+use rules::TASKS;
+use rules::TIMERS;
 use rules::Table;
 use rules::Timer;
 ghost use mathlib.Core.Path.{_≡_};
@@ -11,17 +16,17 @@ pub struct Front {
     pub regions: u8,
     pub queues: u8,
     pub elected: u8,
-    pub priority: [u8; 32],
-    pub state: [u8; 32],
-    pub arrived: [u16; 32],
-    pub list: [u16; 32],
-    pub operator: [u8; 32],
-    pub holder: [u8; 16],
-    pub entries: [u8; 16],
-    pub bound: [u8; 8],
-    pub length: [u8; 8],
+    pub priority: [u8; TASKS],
+    pub state: [u8; TASKS],
+    pub arrived: [u16; TASKS],
+    pub list: [u16; TASKS],
+    pub operator: [u8; TASKS],
+    pub holder: [u8; REGIONS],
+    pub entries: [u8; REGIONS],
+    pub bound: [u8; QUEUES],
+    pub length: [u8; QUEUES],
     pub ticks: u32,
-    pub timers: [Timer; 16],
+    pub timers: [Timer; TIMERS],
 }
 
 // After a call on a lent store: the rest of the table, and the answer.
@@ -62,7 +67,7 @@ pub fn front_of(t: Table) -> Front
     }
 }
 
-pub fn table_of(f: Front, element: [u32; 512], criterion: [u8; 512]) -> Table
+pub fn table_of(f: Front, element: [u32; STORE], criterion: [u8; STORE]) -> Table
     ensures { λ r. ⌜ r ≡ whole f element criterion ⌝ }
 {
     let priority = f.priority;

@@ -1,5 +1,6 @@
 // The check of the task columns: every task is right, and past the count it is a stopped one of priority 0, which is all 0.
 use crate::condition::met_by;
+use rules::TASKS;
 ghost use mathlib.Core.Path.{_≡_};
 ghost use Rattle.rules.proofs.Validity.{rowRight, tasksRight};
 ghost use mathlib.Core.Bool.{_&&_};
@@ -19,13 +20,13 @@ fn row_fits(priority: u8, state: u8, arrived: u16, list: u16, operator: u8) -> b
 }
 
 // Past the count priority and state are 0. What else is 0 there is so of every stopped task.
-fn rest_zero<'a>(tasks: u8, priority: &'a [u8; 32], state: &'a [u8; 32]) -> bool
-    requires { ⌜ length (now priority) ≡ 32 ⌝ }
-    requires { ⌜ length (now state) ≡ 32 ⌝ }
+fn rest_zero<'a>(tasks: u8, priority: &'a [u8; TASKS], state: &'a [u8; TASKS]) -> bool
+    requires { ⌜ length (now priority) ≡ taskRoom ⌝ }
+    requires { ⌜ length (now state) ≡ taskRoom ⌝ }
     ensures { λ r. ⌜ r ≡ past tasks taskRoom (λ i. isZero (getD (now (priority .entry)) i 0) && isZero (getD (now (state .entry)) i 0)) ⌝ }
 {
     let mut ok = true;
-    for i in (tasks as usize)..32 {
+    for i in (tasks as usize)..TASKS {
         ok = ok & ((priority[i] == 0) & (state[i] == 0));
     }
     ok
@@ -33,22 +34,22 @@ fn rest_zero<'a>(tasks: u8, priority: &'a [u8; 32], state: &'a [u8; 32]) -> bool
 
 pub fn tasks_right<'a>(
     tasks: u8,
-    priority: &'a [u8; 32],
-    state: &'a [u8; 32],
-    arrived: &'a [u16; 32],
-    list: &'a [u16; 32],
-    operator: &'a [u8; 32],
+    priority: &'a [u8; TASKS],
+    state: &'a [u8; TASKS],
+    arrived: &'a [u16; TASKS],
+    list: &'a [u16; TASKS],
+    operator: &'a [u8; TASKS],
 ) -> bool
-    requires { ⌜ length (now priority) ≡ 32 ⌝ }
-    requires { ⌜ length (now state) ≡ 32 ⌝ }
-    requires { ⌜ length (now arrived) ≡ 32 ⌝ }
-    requires { ⌜ length (now list) ≡ 32 ⌝ }
-    requires { ⌜ length (now operator) ≡ 32 ⌝ }
+    requires { ⌜ length (now priority) ≡ taskRoom ⌝ }
+    requires { ⌜ length (now state) ≡ taskRoom ⌝ }
+    requires { ⌜ length (now arrived) ≡ taskRoom ⌝ }
+    requires { ⌜ length (now list) ≡ taskRoom ⌝ }
+    requires { ⌜ length (now operator) ≡ taskRoom ⌝ }
     ensures { λ r. ⌜ r ≡ tasksRight tasks (now (priority .entry)) (now (state .entry)) (now (arrived .entry)) (now (list .entry)) (now (operator .entry)) ⌝ }
 {
     let rest = rest_zero(tasks, priority, state);
     let mut ok = true;
-    for i in 0..32 {
+    for i in 0..TASKS {
         let fits = row_fits(priority[i], state[i], arrived[i], list[i], operator[i]);
         ok = ok & fits;
     }

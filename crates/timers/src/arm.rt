@@ -79,7 +79,7 @@ pub fn timer_after(k: Call, ticks: u32, r: Timer) -> Timer
 }
 
 // All timers after an operation on a task.
-pub fn timers_left(operation: u8, task: u8, timers: [Timer; 16]) -> [Timer; 16]
+pub fn timers_left(operation: u8, task: u8, timers: [Timer; TIMERS]) -> [Timer; TIMERS]
     ensures { λ r. ⌜ r ≡ timersLeft operation task timers ⌝ }
 {
     if (operation == 1) | (operation == 2) {

@@ -51,7 +51,7 @@ fn state_at(owner: u8, state: &[u8; TASKS]) -> u8
 }
 
 pub fn timers_right(tasks: u8, ticks: u32, timers: [Timer; TIMERS], state: &[u8; TASKS]) -> bool
-    requires { ⌜ length (now state) ≡ 32 ⌝ }
+    requires { ⌜ length (now state) ≡ taskRoom ⌝ }
     ensures { λ r. ⌜ r ≡ timersRight tasks (now (state .entry)) ticks timers ⌝ }
 {
     let owners = owners_of(tasks);

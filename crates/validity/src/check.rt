@@ -6,6 +6,11 @@ use regions::entries_right;
 use regions::holder_right;
 use regions::joined_by;
 use regions::regions_right;
+use rules::QUEUES;
+use rules::REGIONS;
+use rules::STORE;
+use rules::TASKS;
+use rules::TIMERS;
 use rules::Table;
 use rules::Timer;
 use tables::Front;
@@ -14,6 +19,7 @@ use tasks::tasks_right;
 use timers::timers_right;
 ghost use mathlib.Core.Path.{_≡_};
 ghost use lib.ListN.{length};
+ghost use Rattle.rules.specs.Numbers.{taskRoom, regionRoom, queueRoom, storeSize};
 ghost use Rattle.rules.specs.Validity.{valid};
 ghost use Rattle.validity.specs.Lent.{lent};
 ghost use Rattle.tables.specs.Fronts.{whole};
@@ -25,31 +31,31 @@ fn valid_of<'a>(
     regions: u8,
     queues: u8,
     elected: u8,
-    priority: &'a [u8; 32],
-    state: &'a [u8; 32],
-    arrived: &'a [u16; 32],
-    list: &'a [u16; 32],
-    operator: &'a [u8; 32],
-    holder: &'a [u8; 16],
-    entries: &'a [u8; 16],
-    bound: &'a [u8; 8],
-    lengths: &'a [u8; 8],
-    element: &'a [u32; 512],
-    criterion: &'a [u8; 512],
+    priority: &'a [u8; TASKS],
+    state: &'a [u8; TASKS],
+    arrived: &'a [u16; TASKS],
+    list: &'a [u16; TASKS],
+    operator: &'a [u8; TASKS],
+    holder: &'a [u8; REGIONS],
+    entries: &'a [u8; REGIONS],
+    bound: &'a [u8; QUEUES],
+    lengths: &'a [u8; QUEUES],
+    element: &'a [u32; STORE],
+    criterion: &'a [u8; STORE],
     ticks: u32,
-    timers: [Timer; 16],
+    timers: [Timer; TIMERS],
 ) -> bool
-    requires { ⌜ length (now priority) ≡ 32 ⌝ }
-    requires { ⌜ length (now state) ≡ 32 ⌝ }
-    requires { ⌜ length (now arrived) ≡ 32 ⌝ }
-    requires { ⌜ length (now list) ≡ 32 ⌝ }
-    requires { ⌜ length (now operator) ≡ 32 ⌝ }
-    requires { ⌜ length (now holder) ≡ 16 ⌝ }
-    requires { ⌜ length (now entries) ≡ 16 ⌝ }
-    requires { ⌜ length (now bound) ≡ 8 ⌝ }
-    requires { ⌜ length (now lengths) ≡ 8 ⌝ }
-    requires { ⌜ length (now element) ≡ 512 ⌝ }
-    requires { ⌜ length (now criterion) ≡ 512 ⌝ }
+    requires { ⌜ length (now priority) ≡ taskRoom ⌝ }
+    requires { ⌜ length (now state) ≡ taskRoom ⌝ }
+    requires { ⌜ length (now arrived) ≡ taskRoom ⌝ }
+    requires { ⌜ length (now list) ≡ taskRoom ⌝ }
+    requires { ⌜ length (now operator) ≡ taskRoom ⌝ }
+    requires { ⌜ length (now holder) ≡ regionRoom ⌝ }
+    requires { ⌜ length (now entries) ≡ regionRoom ⌝ }
+    requires { ⌜ length (now bound) ≡ queueRoom ⌝ }
+    requires { ⌜ length (now lengths) ≡ queueRoom ⌝ }
+    requires { ⌜ length (now element) ≡ storeSize ⌝ }
+    requires { ⌜ length (now criterion) ≡ storeSize ⌝ }
     ensures { λ r. ⌜ r ≡ valid (lent tasks regions queues elected (now (priority .entry)) (now (state .entry)) (now (arrived .entry)) (now (list .entry)) (now (operator .entry)) (now (holder .entry)) (now (entries .entry)) (now (bound .entry)) (now (lengths .entry)) (now (element .entry)) (now (criterion .entry)) ticks timers) ⌝ }
 {
     let v = joined_by(holder);
@@ -74,9 +80,9 @@ fn valid_of<'a>(
     columns & criteria
 }
 
-pub fn front_valid<'a>(f: Front, element: &'a [u32; 512], criterion: &'a [u8; 512]) -> bool
-    requires { ⌜ length (now element) ≡ 512 ⌝ }
-    requires { ⌜ length (now criterion) ≡ 512 ⌝ }
+pub fn front_valid<'a>(f: Front, element: &'a [u32; STORE], criterion: &'a [u8; STORE]) -> bool
+    requires { ⌜ length (now element) ≡ storeSize ⌝ }
+    requires { ⌜ length (now criterion) ≡ storeSize ⌝ }
     ensures { λ r. ⌜ r ≡ valid (whole f (now (element .entry)) (now (criterion .entry))) ⌝ }
 {
     let timers = f.timers;
