@@ -21,7 +21,8 @@ use Rattle.rules.proofs.Bools.{given, shown, and-left, and-right, or-cases}
 use Rattle.rules.proofs.Lists.{every-cons, every-nil}
 use Rattle.rules.proofs.Counts.{below-at}
 use Rattle.theorems.proofs.ArmedTimers.{every-kept}
-use Rattle.rules.proofs.Validity.{rowZero, rowFits, row-given, tasksRight, regionFits, regionsRight, boundFits, queueRight, queuesRight, Parts, held-fits, elected-below, entries-fit}
+use Rattle.rules.specs.Checks.{rowZero, rowFits, tasksRight, regionFits, regionsRight, boundFits, queueRight, queuesRight}
+use Rattle.rules.proofs.Validity.{row-given, Parts, held-fits, elected-below, entries-fit}
 use Rattle.rules.proofs.Entries.{entries-most}
 use Rattle.packing.proofs.RoundTrips.{fits, timerFits}
 use Rattle.block_theorems.specs.Ranges.{elementsInRange}

@@ -14,7 +14,8 @@ use Rattle.rules.specs.Numbers.{WAIT}
 use Rattle.rules.specs.Events.{met}
 use Rattle.rules.specs.Regions.{held}
 use Rattle.rules.specs.Tables.{taskOf, withTask, withTimers, withElected, electionOf}
-use Rattle.rules.proofs.Election.{electedBy, election-by}
+use Rattle.rules.specs.Election.{electedBy}
+use Rattle.rules.proofs.Election.{election-by}
 use Rattle.tasks.specs.Effects.{taskAfter}
 use Rattle.timers.specs.Effects.{timersLeft}
 use Rattle.tables.specs.Fronts.{told}

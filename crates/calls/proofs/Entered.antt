@@ -7,7 +7,8 @@ use Rattle.rules.specs.declared.Table.{Table}
 use Rattle.rules.specs.declared.Call.{Call}
 use Rattle.rules.specs.Regions.{held}
 use Rattle.rules.specs.Tables.{regionOf, withRegion, withElected, electionOf}
-use Rattle.rules.proofs.Election.{electedBy, election-by}
+use Rattle.rules.specs.Election.{electedBy}
+use Rattle.rules.proofs.Election.{election-by}
 use Rattle.regions.specs.Effects.{regionAfter}
 use Rattle.tables.specs.Fronts.{told}
 use Rattle.calls.specs.RegionMade.{regionMadeAt}

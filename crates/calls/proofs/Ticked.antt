@@ -7,7 +7,8 @@ use Rattle.rules.specs.declared.Table.{Table}
 use Rattle.rules.specs.Regions.{held}
 use Rattle.rules.specs.Timers.{later, rung}
 use Rattle.rules.specs.Tables.{withTimers, withElected, electionOf}
-use Rattle.rules.proofs.Election.{electedBy, election-by}
+use Rattle.rules.specs.Election.{electedBy}
+use Rattle.rules.proofs.Election.{election-by}
 use Rattle.timers.specs.declared.ring.Rows.{Rows}
 use Rattle.timers.specs.Signals.{rungRows, rowsOf, withRows}
 use Rattle.tables.specs.Fronts.{told}

@@ -7,8 +7,7 @@ ghost use lib.Count.{trailingZeros};
 ghost use lib.Dec.{eqb};
 ghost use lib.ListN.{length};
 ghost use Rattle.rules.specs.Numbers.{taskRoom};
-ghost use Rattle.rules.specs.Election.{smallest, lowest, readyAt, priorityAt, bestReady};
-ghost use Rattle.rules.proofs.Election.{electedBy};
+ghost use Rattle.rules.specs.Election.{smallest, lowest, readyAt, priorityAt, bestReady, electedBy};
 ghost use Rattle.election.specs.Words.{word};
 
 // What is added to the priority number of a task that is not ready: enough to stand behind all of them, and behind 256.

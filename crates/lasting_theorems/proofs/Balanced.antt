@@ -26,7 +26,8 @@ use Rattle.rules.proofs.Lists.{every-head, every-tail}
 use Rattle.rules.proofs.Entries.{entries-most, entries-some, enteredBy, freeRegion, exit-frees, exit-keeps, regions-long, region-same, region-other, region-again, region-back}
 use Rattle.rules.proofs.Effects.{each-effect, ringing-same}
 use Rattle.rules.proofs.Refusals.{Accepted, accepted-facts}
-use Rattle.rules.proofs.Validity.{regionFits, Parts, parts-of, region-fits, entries-fit, held-fits, counts-fit}
+use Rattle.rules.specs.Checks.{regionFits}
+use Rattle.rules.proofs.Validity.{Parts, parts-of, region-fits, entries-fit, held-fits, counts-fit}
 use Rattle.theorems.specs.Kept.{afterAll}
 use Rattle.lasting_theorems.specs.Balanced.{enters, exits, balanced, NestedBalanced, Protected, StillHeld, NothingLeft, FreedAtMatch}
 use Rattle.theorems.proofs.Regions.{holder-elected}

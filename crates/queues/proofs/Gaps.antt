@@ -10,7 +10,7 @@ use lib.Seq.{length-slice, length-take-le}
 use borrow.Author.Tests.{lt-ltb, le-leb, ltb-true, leb-true}
 use Rattle.rules.specs.Numbers.{storeSize}
 use Rattle.rules.proofs.Bools.{and-left, and-right}
-use Rattle.rules.proofs.Store.{closed}
+use Rattle.rules.specs.Queues.{closed}
 use Rattle.queues.specs.Gaps.{closedIn}
 
 -- a part that is there

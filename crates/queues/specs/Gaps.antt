@@ -4,7 +4,7 @@ use mathlib.Core.Bool.{cond, _&&_}
 use mathlib.Core.List.{List}
 use lib.Dec.{leb, ltb}
 use Rattle.rules.specs.Numbers.{storeSize}
-use Rattle.rules.proofs.Store.{closed}
+use Rattle.rules.specs.Queues.{closed}
 
 -- the gap at `at` closed, with 0 in the last place, `end - 1`
 unfoldable pub closedIn : ℕ → ℕ → List ℕ → List ℕ

@@ -8,7 +8,7 @@ ghost use Prim.Native.Nat.{_<_};
 ghost use mathlib.Core.Path.{_≡_};
 ghost use lib.ListN.{length};
 ghost use Rattle.rules.specs.Numbers.{queueRoom, storeSize};
-ghost use Rattle.rules.proofs.Validity.{boundFits, queueRight, queuesRight};
+ghost use Rattle.rules.specs.Checks.{boundFits, queueRight, queuesRight};
 ghost use Rattle.rules.specs.Validity.{criteriaInRange};
 
 // Below the count a bound is 1 to 64, and no queue is longer than its bound; past it both are 0.

@@ -16,7 +16,7 @@ use Rattle.rules.specs.Words.{isZero}
 use Rattle.rules.specs.Regions.{held}
 use Rattle.rules.proofs.Bools.{and-right, or-cases, or-keeps}
 use Rattle.rules.proofs.Counts.{below-at}
-use Rattle.rules.proofs.Validity.{regionFits, regionsRight, holderRight}
+use Rattle.rules.specs.Checks.{regionFits, regionsRight, holderRight}
 use Rattle.regions.specs.Joined.{joined}
 
 -- ---- the entries' bits

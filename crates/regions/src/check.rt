@@ -5,7 +5,7 @@ ghost use mathlib.Core.Path.{_≡_};
 ghost use lib.ListN.{length};
 ghost use Rattle.rules.specs.Numbers.{taskRoom, regionRoom};
 ghost use Rattle.regions.specs.Joined.{joined};
-ghost use Rattle.rules.proofs.Validity.{regionFits, regionsRight, holderRight, entriesEverywhere};
+ghost use Rattle.rules.specs.Checks.{regionFits, regionsRight, holderRight, entriesEverywhere};
 ghost use Rattle.rules.specs.Validity.{entriesFit};
 
 // The entries' bits, joined. Where all occupied regions have the same entry it is this one, and where they have not, `regions_right` finds

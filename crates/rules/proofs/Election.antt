@@ -11,7 +11,7 @@ use borrow.Author.Tests.{eqb-true, eqb-false, eq-eqb, ne-eqb, ltb-true, ltb-fals
 use Rattle.rules.specs.Numbers.{taskRoom, priorityEnd, nobody}
 use Rattle.rules.specs.Words.{isZero}
 use Rattle.rules.specs.Regions.{held, occupied, holderOf}
-use Rattle.rules.specs.Election.{smallest, lowest, readyAt, priorityAt, isBest, bestReady, election}
+use Rattle.rules.specs.Election.{smallest, lowest, readyAt, priorityAt, isBest, bestReady, election, Ready, Wins, electedBy}
 use Rattle.rules.proofs.Counts.{at-end}
 use Rattle.rules.proofs.Bools.{and-left, and-right, both}
 
@@ -137,15 +137,6 @@ lowest-is passes (suc n) w = go (passes n) refl (lowest-is passes n (omega arith
 
 -- ---- the words
 
-abbrev pub Ready : List ℕ → ℕ → Type 0
-Ready states i = (i < taskRoom) × (readyAt states i ≡ true)
-
--- "the ready task of smallest priority number, and of equals the lowest task number"
-pub record Wins (states priorities : List ℕ) (w : ℕ) : Type 0 where
-  pub ready : Ready states w
-  pub first : (i : ℕ) → Ready states i
-      → (priorityAt priorities w < priorityAt priorities i) ⊎ ((priorityAt priorities w ≡ priorityAt priorities i) × (w ≤ i))
-
 -- nobody else wins
 pub wins-alone : (states priorities : List ℕ) (v w : ℕ) → Wins states priorities v → Wins states priorities w → v ≡ w
 wins-alone states priorities v w a b =
@@ -219,10 +210,6 @@ pub election-free : (states priorities holders : List ℕ) → occupied holders 
     → election states priorities holders ≡ bestReady states priorities
 unfolding election
 election-free states priorities holders h = rw h
-
--- the same by the first occupied region's entry, as the code has it
-unfoldable pub electedBy : ℕ → List ℕ → List ℕ → ℕ
-electedBy v states priorities = cond (isZero v) (bestReady states priorities) (v - 1)
 
 pub election-by : (states priorities holders : List ℕ) → electedBy (held holders) states priorities ≡ election states priorities holders
 unfolding election electedBy

@@ -10,10 +10,10 @@ use lib.Seq.{getD-set-same, getD-set-other}
 use Rattle.rules.specs.declared.Table.{Table}
 use Rattle.rules.specs.Numbers.{places}
 use Rattle.rules.specs.Words.{isZero, every}
-use Rattle.rules.specs.Queues.{Pair, pair, noPair, pairs, elements, criteria, firstPlace, front, behind, laid, without}
+use Rattle.rules.specs.Queues.{Pair, pair, noPair, pairs, elements, criteria, firstPlace, front, behind, laid, without, closed}
 use Rattle.rules.specs.Tables.{lengthOf, queueOf, withStore, withQueue}
 use Rattle.rules.proofs.Lists.{length-without, map-append, map-without}
-use Rattle.rules.proofs.Store.{front-at, front-length, front-laid-same, front-laid-other, closed, store-send, store-take}
+use Rattle.rules.proofs.Store.{front-at, front-length, front-laid-same, front-laid-other, store-send, store-take}
 
 -- ---- pairs and their two sides
 

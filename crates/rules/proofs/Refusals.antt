@@ -9,7 +9,7 @@ use lib.ListN.{length}
 use borrow.Author.Tests.{eqb-false, not-true, not-false}
 use Rattle.rules.specs.declared.Table.{Table}
 use Rattle.rules.specs.declared.Call.{Call}
-use Rattle.rules.specs.Words.{isZero, every, Reason, first}
+use Rattle.rules.specs.Words.{isZero, every, Reason, first, None}
 use Rattle.rules.specs.Numbers.{WAIT, ENTER, SEND, RETRIEVE, TICK}
 use Rattle.rules.specs.Regions.{occupied}
 use Rattle.rules.specs.Queues.{noneFits}
@@ -36,10 +36,6 @@ unfolding objectReasons
 object-order t count i = refl
 
 -- ---- none applies
-
-abbrev pub None : List Reason → Type 0
-None [] = Unit {0}
-None (r ∷ rs) = (r .applies ≡ false) × None rs
 
 -- no status of a list is 0
 abbrev pub named : Reason → Bool

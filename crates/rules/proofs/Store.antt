@@ -13,7 +13,7 @@ use lib.Dec.{ltb}
 use borrow.Author.Tests.{eqb-true, ltb-true, ltb-false}
 use Rattle.rules.specs.Numbers.{places}
 use Rattle.rules.specs.Words.{isZero, every, padded}
-use Rattle.rules.specs.Queues.{firstPlace, front, behind, laid, without}
+use Rattle.rules.specs.Queues.{firstPlace, front, behind, laid, without, closed}
 use Rattle.rules.proofs.Lists.{every-head, every-tail, every-append, every-take, every-drop, every-replicate, length-padded, length-without}
 
 -- ---- parts of a list
@@ -125,10 +125,6 @@ module _ (q : ℕ) (xs l : List ℕ) (fits : length xs ≤ places) (room : first
     behind-laid-other n = simp (behind-part, laid-other)
 
 -- ---- as the code writes it
-
--- the gap at `at` closed: what stands up to `end` moved one down, and 0 in the last place
-abbrev pub closed : ℕ → ℕ → List ℕ → List ℕ
-closed at end l = take at l ++ (slice (suc at) end l ++ 0 ∷ drop end l)
 
 module _ (q n : ℕ) (l : List ℕ) (room : firstPlace q + places ≤ length l) (free : every isZero (behind q n l) ≡ true) where
   free-is : n ≤ places → drop (firstPlace q + n) l ≡ replicate (places - n) 0 ++ drop (firstPlace q + places) l

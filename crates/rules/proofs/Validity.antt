@@ -18,6 +18,7 @@ use Rattle.rules.specs.Queues.{behind}
 use Rattle.rules.specs.Election.{lowest, readyAt, isBest, bestReady}
 use Rattle.rules.specs.Tables.{taskOf, lengthOf, boundOf, electionOf}
 use Rattle.rules.specs.Validity.{shaped, countsInRange, prioritiesInRange, boundInRange, boundsInRange, listsInRange, operatorsInRange, holdersInRange, criteriaInRange, zeroPast, zeroPastCounts, zeroPastLengths, restRight, stateRight, statesRight, entriesFit, entriesRight, oneHolder, holderReady, holderElected, lengthsRight, electedRight, timersRight, valid}
+use Rattle.rules.specs.Checks.{rowRight, rowZero, rowFits, tasksRight, regionFits, regionsRight, entriesEverywhere, holderRight, boundFits, queueRight, queuesRight}
 use Rattle.rules.proofs.Bools.{given, shown, and-left, and-right, both, or-cases, or-first, or-second, same-test}
 use Rattle.rules.proofs.Election.{lowest-is, election-held, election-free}
 use Rattle.rules.proofs.Queues.{Sound}
@@ -132,17 +133,6 @@ valid-of t r =
 
 -- ---- by subject
 
--- a task below the count: its priority and what the columns say of it
-unfoldable pub rowRight : ℕ → ℕ → ℕ → ℕ → ℕ → Bool
-rowRight priority state arrived list operator =
-    all (ltb priority priorityEnd
-    ∷ ltb arrived listEnd
-    ∷ ltb list listEnd
-    ∷ leb operator 1
-    ∷ (eqb state waiting || (isZero list && isZero operator))
-    ∷ stateRight state arrived list operator
-    ∷ [])
-
 -- the same, test by test
 pub record Row (priority state arrived list operator : ℕ) : Type 0 where
   pub priority-fits : ltb priority priorityEnd ≡ true
@@ -164,46 +154,6 @@ module _ (priority state arrived list operator : ℕ) where
   row-shown r =
       shown _
       (r .priority-fits, (r .arrived-fits, (r .list-fits, (r .operator-fits, (r .rest, (r .state-right, tt))))))
-
--- one past it
-unfoldable pub rowZero : ℕ → ℕ → ℕ → ℕ → ℕ → Bool
-rowZero priority state arrived list operator =
-    all (isZero priority ∷ isZero state ∷ isZero arrived ∷ isZero list ∷ isZero operator ∷ [])
-
--- task i of a table with so many
-unfoldable pub rowFits : ℕ → ℕ → ℕ → ℕ → ℕ → ℕ → ℕ → Bool
-rowFits tasks i priority state arrived list operator =
-    cond (ltb i tasks) (rowRight priority state arrived list operator) (rowZero priority state arrived list operator)
-
-unfoldable pub tasksRight : ℕ → List ℕ → List ℕ → List ℕ → List ℕ → List ℕ → Bool
-tasksRight tasks priorities states arrived lists operators =
-    below taskRoom
-    (λ i. rowFits tasks i (getD priorities i 0) (getD states i 0) (getD arrived i 0) (getD lists i 0) (getD operators i 0))
-
--- region i of a table with so many, where h is its entry and v the occupied ones'
-unfoldable pub regionFits : ℕ → ℕ → ℕ → ℕ → Bool
-regionFits regions v i h = isZero h || (ltb i regions && eqb h v)
-
-unfoldable pub regionsRight : ℕ → ℕ → List ℕ → Bool
-regionsRight regions v holders = below regionRoom (λ i. regionFits regions v i (getD holders i 0))
-
--- each region's count fits its holder, also past the count of regions, where both are 0
-unfoldable pub entriesEverywhere : List ℕ → List ℕ → Bool
-entriesEverywhere holders entries = below regionRoom (λ i. entriesFit (getD holders i 0) (getD entries i 0))
-
--- the holder, if there is one, is a task that is ready
-unfoldable pub holderRight : ℕ → List ℕ → ℕ → Bool
-holderRight tasks states v = isZero v || (leb v tasks && readyAt states (v - 1))
-
--- bound and length of queue q of a table with so many queues
-unfoldable pub boundFits : ℕ → ℕ → ℕ → ℕ → Bool
-boundFits queues q bound n = cond (ltb q queues) (boundInRange bound && leb n bound) (isZero bound && isZero n)
-
-unfoldable pub queueRight : ℕ → ℕ → ℕ → ℕ → List ℕ → List ℕ → Bool
-queueRight queues q bound n es cs = boundFits queues q bound n && (every isZero (behind q n es) && every isZero (behind q n cs))
-
-unfoldable pub queuesRight : ℕ → List ℕ → List ℕ → List ℕ → List ℕ → Bool
-queuesRight queues bounds lengths es cs = below queueRoom (λ q. queueRight queues q (getD bounds q 0) (getD lengths q 0) es cs)
 
 -- what a valid table has, by subject
 pub record Parts (t : Table) : Type 0 where

@@ -1,10 +1,13 @@
 -- Election: "the holder if any region is occupied; else the ready task of smallest priority number, and of equals the lowest task number; else 255".
-use Prim.Native.Nat.{ℕ, zero, suc, min}
-use mathlib.Core.Bool.{Bool, cond, _&&_}
+use Prim.Native.Nat.{ℕ, zero, suc, _-_, _<_, _≤_, min}
+use mathlib.Core.Path.{_≡_}
+use mathlib.Core.Logic.{_⊎_}
+use mathlib.Core.Bool.{Bool, true, cond, _&&_}
 use mathlib.Core.List.{List}
 use lib.Dec.{eqb}
 use lib.ListN.{getD}
 use Rattle.rules.specs.Numbers.{taskRoom, priorityEnd, nobody}
+use Rattle.rules.specs.Words.{isZero}
 use Rattle.rules.specs.Tasks.{ready}
 use Rattle.rules.specs.Regions.{occupied, holderOf}
 
@@ -37,3 +40,18 @@ bestReady states priorities = lowest taskRoom (isBest states priorities)
 -- "the holder if any region is occupied; else .."
 unfoldable pub election : List ℕ → List ℕ → List ℕ → ℕ
 election states priorities holders = cond (occupied holders) (holderOf holders) (bestReady states priorities)
+
+-- ---- the same in words of every ready task, and by the first occupied region's entry
+
+abbrev pub Ready : List ℕ → ℕ → Type 0
+Ready states i = (i < taskRoom) × (readyAt states i ≡ true)
+
+-- "the ready task of smallest priority number, and of equals the lowest task number"
+pub record Wins (states priorities : List ℕ) (w : ℕ) : Type 0 where
+  pub ready : Ready states w
+  pub first : (i : ℕ) → Ready states i
+      → (priorityAt priorities w < priorityAt priorities i) ⊎ ((priorityAt priorities w ≡ priorityAt priorities i) × (w ≤ i))
+
+-- by the entry of the first occupied region, as the code has it
+unfoldable pub electedBy : ℕ → List ℕ → List ℕ → ℕ
+electedBy v states priorities = cond (isZero v) (bestReady states priorities) (v - 1)

@@ -9,6 +9,7 @@ pub mod Timers
 pub mod Election
 pub mod Tables
 pub mod Validity
+pub mod Checks
 pub mod Answers
 pub mod Fresh
 pub mod Refusals

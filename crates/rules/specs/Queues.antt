@@ -70,3 +70,7 @@ noneFits k queue = leb (length queue) (place k queue)
 -- the list with the entry at i removed
 unfoldable pub without {ℓ} : {A : Type ℓ} → ℕ → List A → List A
 without i xs = take i xs ++ drop (suc i) xs
+
+-- the gap at `at` closed: what stands up to `end` moved one down, and 0 in the last place
+abbrev pub closed : ℕ → ℕ → List ℕ → List ℕ
+closed at end l = take at l ++ (slice (suc at) end l ++ 0 ∷ drop end l)

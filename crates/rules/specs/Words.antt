@@ -1,6 +1,6 @@
 -- The few words that the rules are written with: all, every, below, the first that applies, one entry changed.
 use Prim.Native.Nat.{ℕ, zero, suc, _-_}
-use mathlib.Core.Bool.{Bool, true, cond, not, _&&_, _||_}
+use mathlib.Core.Bool.{Bool, true, false, cond, not, _&&_, _||_}
 use mathlib.Core.Path.{_≡_}
 use mathlib.Core.List.{List, [], _∷_, _++_}
 use lib.Dec.{eqb, ltb}
@@ -63,3 +63,8 @@ when status applies = record { status = status; applies = applies }
 abbrev pub first : List Reason → ℕ
 first [] = 0
 first (r ∷ rs) = cond (r .applies) (r .status) (first rs)
+
+-- none of them applies
+abbrev pub None : List Reason → Type 0
+None [] = Unit {0}
+None (r ∷ rs) = (r .applies ≡ false) × None rs

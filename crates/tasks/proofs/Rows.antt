@@ -11,7 +11,8 @@ use Rattle.rules.specs.Numbers.{taskRoom}
 use Rattle.rules.specs.Words.{isZero, all, below, past}
 use Rattle.rules.proofs.Bools.{and-left, and-right, same-test, given, shown}
 use Rattle.rules.proofs.Counts.{below-again, past-all}
-use Rattle.rules.proofs.Validity.{rowRight, row-given, rowZero, rowFits, tasksRight}
+use Rattle.rules.specs.Checks.{rowRight, rowZero, rowFits, tasksRight}
+use Rattle.rules.proofs.Validity.{row-given}
 
 -- ---- past the count
 

@@ -2,7 +2,7 @@
 use crate::condition::met_by;
 use rules::TASKS;
 ghost use mathlib.Core.Path.{_≡_};
-ghost use Rattle.rules.proofs.Validity.{rowRight, tasksRight};
+ghost use Rattle.rules.specs.Checks.{rowRight, tasksRight};
 ghost use mathlib.Core.Bool.{_&&_};
 ghost use lib.ListN.{length, getD};
 ghost use Rattle.rules.specs.Numbers.{taskRoom};

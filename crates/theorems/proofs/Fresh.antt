@@ -14,14 +14,15 @@ use Rattle.rules.specs.Tasks.{stopped, ready}
 use Rattle.rules.specs.Regions.{held}
 use Rattle.rules.specs.Queues.{firstPlace, behind}
 use Rattle.rules.specs.Timers.{idle}
-use Rattle.rules.specs.Election.{bestReady, readyAt, priorityAt}
+use Rattle.rules.specs.Election.{bestReady, readyAt, priorityAt, Wins}
 use Rattle.rules.specs.Validity.{shaped, countsInRange, boundInRange, criterionInRange, criteriaInRange, stateRight, timerRight, valid}
 use Rattle.rules.specs.Fresh.{configurationInRange, freshTable, zeroTable}
 use Rattle.rules.proofs.Bools.{given, shown, both, or-second}
 use Rattle.rules.proofs.Counts.{below-all}
 use Rattle.rules.proofs.Lists.{every-in, every-take, every-drop, every-replicate, length-padded, padded-at, padded-past}
-use Rattle.rules.proofs.Election.{Wins, wins-alone, best-wins, election-free}
-use Rattle.rules.proofs.Validity.{rowFits, rowZero, row-shown, tasksRight, entriesEverywhere, holderRight, boundFits, queueRight, queuesRight, Parts, valid-parts, counts-fit}
+use Rattle.rules.proofs.Election.{wins-alone, best-wins, election-free}
+use Rattle.rules.specs.Checks.{rowFits, rowZero, tasksRight, entriesEverywhere, holderRight, boundFits, queueRight, queuesRight}
+use Rattle.rules.proofs.Validity.{row-shown, Parts, valid-parts, counts-fit}
 use Rattle.theorems.proofs.ArmedTimers.{idle-right, timers-shown}
 use Rattle.theorems.specs.Kept.{FreshValid, ZerosInvalid}
 use Rattle.theorems.proofs.Regions.{free-fits}

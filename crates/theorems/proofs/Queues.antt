@@ -20,7 +20,8 @@ use Rattle.rules.proofs.Counts.{below-at, below-all}
 use Rattle.rules.proofs.Lists.{every-append, every-take, every-drop, every-cons, every-nil, map-append, map-without}
 use Rattle.rules.proofs.Store.{slice-is, every-laid, laid-length, behind-laid-same, behind-laid-other}
 use Rattle.rules.proofs.Queues.{queue-length, queue-criteria}
-use Rattle.rules.proofs.Validity.{boundFits, queueRight, queuesRight, Parts, sound, used, bound-below, counts-fit}
+use Rattle.rules.specs.Checks.{boundFits, queueRight, queuesRight}
+use Rattle.rules.proofs.Validity.{Parts, sound, used, bound-below, counts-fit}
 
 module _ (t : Table) (p : Parts t) (q : ℕ) (l : q < t .queues) where
   room : q < queueRoom

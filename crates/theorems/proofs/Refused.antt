@@ -5,10 +5,10 @@ use mathlib.Core.Logic.{_≢_}
 use mathlib.Core.Bool.{Bool, true, false}
 use mathlib.Core.List.{List, [], _∷_, _++_}
 use borrow.Author.Tests.{ne-eqb}
-use Rattle.rules.specs.Words.{Reason, first}
+use Rattle.rules.specs.Words.{Reason, first, None}
 use Rattle.rules.specs.Refusals.{reasons, refusal}
 use Rattle.rules.specs.Step.{step}
-use Rattle.rules.proofs.Refusals.{None, accepted-none}
+use Rattle.rules.proofs.Refusals.{accepted-none}
 use Rattle.theorems.specs.Refused.{One, OneAnswer, FirstIs, RefusedExactly, AcceptedExactly, RefusedDone}
 
 pub one {ℓ} : {A : Type ℓ} (x : A) → One {A = A} (λ d. d ≡ x)

@@ -22,7 +22,8 @@ use Rattle.rules.proofs.Counts.{below-at, below-all}
 use Rattle.rules.proofs.Election.{election-held}
 use Rattle.theorems.proofs.HeldRegions.{held-at, held-free}
 use Rattle.rules.proofs.Entries.{entries-most, entries-some, entries-shown, regions-long}
-use Rattle.rules.proofs.Validity.{regionFits, regionsRight, entriesEverywhere, holderRight, Parts, counts-fit, entries-fit, elected-ready, elected-below}
+use Rattle.rules.specs.Checks.{regionFits, regionsRight, entriesEverywhere, holderRight}
+use Rattle.rules.proofs.Validity.{Parts, counts-fit, entries-fit, elected-ready, elected-below}
 
 -- ---- every region is free or has the entry v
 

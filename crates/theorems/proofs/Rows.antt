@@ -26,7 +26,8 @@ use Rattle.rules.proofs.Counts.{below-at, below-all}
 use Rattle.rules.proofs.Events.{arrive-lt, cleared-le}
 use Rattle.theorems.proofs.Columns.{columns-long, shaped-with}
 use Rattle.theorems.proofs.ArmedTimers.{every-map, every-kept, awake-right, stopped-right, counter-fits, each-right, timers-shown}
-use Rattle.rules.proofs.Validity.{Row, row-shown, rowFits, tasksRight, holderRight, Parts, counts-fit}
+use Rattle.rules.specs.Checks.{rowFits, tasksRight, holderRight}
+use Rattle.rules.proofs.Validity.{Row, row-shown, Parts, counts-fit}
 
 -- a task with this priority is right
 abbrev pub Fits : ℕ → Task → Type 0

@@ -23,7 +23,8 @@ use Rattle.rules.specs.Step.{step}
 use Rattle.rules.proofs.Bools.{given}
 use Rattle.theorems.proofs.HeldRegions.{held-free}
 use Rattle.rules.proofs.Election.{best-wins, best-nobody, election-held, election-free}
-use Rattle.rules.proofs.Validity.{Parts, parts-of, held-fits, row-right, row-zero, rowZero, counts-fit, elected-ready, elected-below}
+use Rattle.rules.specs.Checks.{rowZero}
+use Rattle.rules.proofs.Validity.{Parts, parts-of, held-fits, row-right, row-zero, counts-fit, elected-ready, elected-below}
 use Rattle.rules.proofs.Refusals.{Accepted, accepted-facts}
 use Rattle.rules.proofs.Effects.{each-effect, ringing-same}
 use Rattle.theorems.specs.Running.{Runs, RightOneRuns, OnlyHolder, FreedByExit, HolderStays}

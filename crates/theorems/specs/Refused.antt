@@ -8,13 +8,12 @@ use Rattle.rules.specs.declared.Table.{Table}
 use Rattle.rules.specs.declared.Call.{Call}
 use Rattle.rules.specs.declared.Answer.{Answer}
 use Rattle.rules.specs.declared.Done.{Done}
-use Rattle.rules.specs.Words.{Reason}
+use Rattle.rules.specs.Words.{Reason, None}
 use Rattle.rules.specs.Answers.{refused}
 use Rattle.rules.specs.Fresh.{fresh}
 use Rattle.rules.specs.Refusals.{reasons, refusal}
 use Rattle.rules.specs.Queries.{arrivedQuery, emptyQuery, fullQuery, priorityQuery, stateQuery}
 use Rattle.rules.specs.Step.{step}
-use Rattle.rules.proofs.Refusals.{None}
 
 -- ---- one answer and no second
 

@@ -8,11 +8,10 @@ use Rattle.rules.specs.declared.Table.{Table}
 use Rattle.rules.specs.declared.Call.{Call}
 use Rattle.rules.specs.Numbers.{taskRoom, nobody, outside, SIGNAL, EXIT, TICK}
 use Rattle.rules.specs.Regions.{occupied, holderOf}
-use Rattle.rules.specs.Election.{readyAt}
+use Rattle.rules.specs.Election.{readyAt, Wins}
 use Rattle.rules.specs.Validity.{valid}
 use Rattle.rules.specs.Refusals.{refusal}
 use Rattle.rules.specs.Step.{step}
-use Rattle.rules.proofs.Election.{Wins}
 use Rattle.theorems.specs.Kept.{afterAll}
 
 -- "the holder if any region is occupied; else the ready task of smallest priority number, and of equals the lowest task number;

@@ -13,8 +13,10 @@ use Rattle.rules.specs.Words.{all}
 use Rattle.rules.specs.Regions.{held}
 use Rattle.rules.specs.Validity.{shaped, countsInRange, criteriaInRange, timersRight, valid}
 use Rattle.rules.proofs.Bools.{and-left, and-right, both, shown}
-use Rattle.rules.proofs.Election.{electedBy, election-by}
-use Rattle.rules.proofs.Validity.{tasksRight, regionsRight, entriesEverywhere, holderRight, queuesRight, parts-of, valid-is}
+use Rattle.rules.specs.Election.{electedBy}
+use Rattle.rules.proofs.Election.{election-by}
+use Rattle.rules.specs.Checks.{tasksRight, regionsRight, entriesEverywhere, holderRight, queuesRight}
+use Rattle.rules.proofs.Validity.{parts-of, valid-is}
 use Rattle.regions.specs.Joined.{joined}
 use Rattle.regions.proofs.Joining.{joined-right, held-right}
 use Rattle.validity.specs.Lent.{lent, Lengths}

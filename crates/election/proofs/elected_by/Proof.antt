@@ -1,6 +1,6 @@
 -- The holder behind the entry, or the best ready task where there is none.
 use borrow.Author.Needs.{needs}
-use Rattle.rules.proofs.Election.{electedBy}
+use Rattle.rules.specs.Election.{electedBy}
 use borrow.Author.Tests.{eq-eqb, ne-eqb}
 use Rattle.election.proofs.elected_by.Statement.{statement}
 use Rattle.election.proofs.elected_by.Tie as tie

@@ -1,5 +1,5 @@
 -- The tests are the definition's own, in its order, on both sides of the count.
-use Rattle.rules.proofs.Validity.{boundFits}
+use Rattle.rules.specs.Checks.{boundFits}
 use Rattle.rules.proofs.Counts.{tests}
 use Rattle.queues.proofs.check.bound_fits.Statement.{statement}
 use Rattle.queues.proofs.check.bound_fits.Tie as tie

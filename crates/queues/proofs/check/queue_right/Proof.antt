@@ -1,7 +1,7 @@
 -- The three flags are the definition's three parts, and a queue's number is below 8, so that it is its own remainder.
 use borrow.Author.Needs.{needs}
 use native.Mathlib.Nat.{mod-eq-of-lt}
-use Rattle.rules.proofs.Validity.{queueRight}
+use Rattle.rules.specs.Checks.{queueRight}
 use Rattle.queues.proofs.check.queue_right.Statement.{statement}
 use Rattle.queues.proofs.check.queue_right.Tie as tie
 

@@ -5,7 +5,7 @@ use mathlib.Core.Path.{_≡_}
 use lib.ListN.{getD}
 use Rattle.rules.specs.Numbers.{queueRoom}
 use Rattle.rules.specs.Words.{below}
-use Rattle.rules.proofs.Validity.{queueRight, queuesRight}
+use Rattle.rules.specs.Checks.{queueRight, queuesRight}
 use Rattle.rules.proofs.Counts.{below-again, below-end, ends}
 use Rattle.queues.proofs.check.queues_right.Statement.{statement}
 use Rattle.queues.proofs.check.queues_right.Tie as tie

@@ -6,7 +6,7 @@ use lib.ListN.{getD}
 use Rattle.rules.specs.Words.{below}
 use Rattle.rules.proofs.Counts.{below-again, below-end}
 use Rattle.rules.specs.Validity.{entriesFit}
-use Rattle.rules.proofs.Validity.{entriesEverywhere}
+use Rattle.rules.specs.Checks.{entriesEverywhere}
 use Rattle.regions.proofs.check.entries_right.Statement.{statement}
 use Rattle.regions.proofs.check.entries_right.Tie as tie
 

@@ -1,6 +1,6 @@
 -- The test is the definition's own.
 use borrow.Author.Needs.{needs}
-use Rattle.rules.proofs.Validity.{regionFits}
+use Rattle.rules.specs.Checks.{regionFits}
 use Rattle.regions.proofs.check.region_fits.Statement.{statement}
 use Rattle.regions.proofs.check.region_fits.Tie as tie
 

@@ -5,7 +5,7 @@ use mathlib.Core.Path.{_≡_}
 use lib.ListN.{getD}
 use Rattle.rules.specs.Words.{below}
 use Rattle.rules.proofs.Counts.{below-again, below-end}
-use Rattle.rules.proofs.Validity.{regionFits, regionsRight}
+use Rattle.rules.specs.Checks.{regionFits, regionsRight}
 use Rattle.regions.proofs.check.regions_right.Statement.{statement}
 use Rattle.regions.proofs.check.regions_right.Tie as tie
 

@@ -5,7 +5,7 @@ use mathlib.Core.Path.{_≡_}
 use lib.ListN.{getD}
 use Rattle.rules.specs.Words.{below}
 use Rattle.rules.proofs.Counts.{below-again, below-end}
-use Rattle.rules.proofs.Validity.{rowRight}
+use Rattle.rules.specs.Checks.{rowRight}
 use Rattle.tasks.proofs.Rows.{tasks-is}
 use Rattle.tasks.proofs.check.tasks_right.Statement.{statement}
 use Rattle.tasks.proofs.check.tasks_right.Tie as tie
