@@ -1,4 +1,4 @@
--- Laws of the loop over the criteria: joined bits stay below 16 where every criterion does.
+-- Laws of the loop over the criteria: joined bits stay in range where every criterion does.
 use Prim.Native.Nat.{ℕ, _+_, _^_, _<_, _≤_}
 use mathlib.Core.Path.{_≡_}
 use mathlib.Core.Bool.{Bool, _&&_}
@@ -29,7 +29,7 @@ or-below k a b =
     let y = ltb-true b m (and-right (ltb a m) (ltb b m) h) in
     lt-ltb (bitOr a b) m (or-lt k a b x y))
 
--- 16 is 2 ^ 4
+-- the end of the criteria is 2 ^ 4
 module _ (i to bits : ℕ) (l : List ℕ) {z : Bool} where
   pub range-again : (criterionInRange bits && every criterionInRange (slice i to l)) ≡ z → to ≤ length l → i < to
       → (criterionInRange (bitOr bits (getD l i 0)) && every criterionInRange (slice (i + 1) to l)) ≡ z

@@ -42,7 +42,7 @@ fn later_of(a: usize, b: usize) -> usize
     if a < b { b } else { a }
 }
 
-// Whether the elements of a queue's places behind its n elements are all 0. The queue is the number modulo 8, so that every number has one.
+// Whether the elements of a queue's places behind its n elements are all 0. The queue is the number modulo QUEUES, so that every number has one.
 // Four stretches of 16 places cover them, and may overlap: their length is known beforehand, so that they compile to a row of packed
 // instructions without a loop. Only a queue with fewer than 16 places behind it is scanned place by place.
 pub(crate) fn elements_behind(element: &[u32; STORE], q: usize, n: u8) -> bool

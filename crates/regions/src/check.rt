@@ -1,4 +1,5 @@
 // The check of the regions: all occupied ones have one holder, which is a ready task, and each count fits its region's holder.
+use rules::READY;
 use rules::REGIONS;
 use rules::TASKS;
 ghost use mathlib.Core.Path.{_≡_};
@@ -52,7 +53,7 @@ pub fn holder_right(tasks: u8, state: &[u8; TASKS], v: u8) -> bool
         return false;
     }
     let i = (v - 1) as usize;
-    if i < 32 { state[i] == 1 } else { false }
+    if i < TASKS { state[i] == READY } else { false }
 }
 
 // Free and not counted, or held and counted. That a count is at most 255 is in its type.

@@ -5,6 +5,7 @@ use mathlib.Core.Bool.{Bool, true, false, not, _&&_, _||_, or-false, and-true, a
 use native.Mathlib.Omega.{arith}
 use lib.Dec.{eqb, ltb, leb}
 use borrow.Author.Tests.{eqb-true, ne-eqb, lt-ltb, le-leb, leb-true, ltb-true}
+use Rattle.rules.specs.Numbers.{priorityEnd, listEnd}
 use Rattle.rules.specs.Words.{isZero}
 use Rattle.rules.specs.Events.{met}
 use Rattle.rules.proofs.Bools.{and-left, and-right, both, same-test}
@@ -12,7 +13,7 @@ use Rattle.rules.specs.Validity.{stateRight}
 use Rattle.rules.specs.Checks.{rowRight}
 use Rattle.rules.proofs.ValidTasks.{row-given, row-shown}
 
-module _ (priority arrived list operator : ℕ) (p : priority < 256) (a : arrived < 65536) (l : list < 65536) where
+module _ (priority arrived list operator : ℕ) (p : priority < priorityEnd) (a : arrived < listEnd) (l : list < listEnd) where
   idle : Bool
   idle = isZero list && isZero operator
 
@@ -27,9 +28,9 @@ module _ (priority arrived list operator : ℕ) (p : priority < 256) (a : arrive
   fits state o r s =
       row-shown priority state arrived list operator
       (record {
-        priority-fits = lt-ltb priority 256 p;
-        arrived-fits = lt-ltb arrived 65536 a;
-        list-fits = lt-ltb list 65536 l;
+        priority-fits = lt-ltb priority priorityEnd p;
+        arrived-fits = lt-ltb arrived listEnd a;
+        list-fits = lt-ltb list listEnd l;
         operator-fits = o;
         rest = r;
         state-right = s;

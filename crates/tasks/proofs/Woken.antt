@@ -8,19 +8,20 @@ use lib.Dec.{eqb}
 use lib.Pow.{pow-lt}
 use lib.Bits.{bitOr}
 use Rattle.rules.specs.declared.Task.{Task}
+use Rattle.rules.specs.Numbers.{listEnd, eventEnd}
 use Rattle.rules.specs.Events.{met, arrive}
-use Rattle.rules.specs.Tasks.{asWoken, withArrived, woken, signalled}
+use Rattle.rules.specs.Tasks.{waiting, asWoken, withArrived, woken, signalled}
 
 -- the machine's one bit
-pub bit-is : (e : ℕ) → (1 * 2 ^ (e % 16)) % 65536 ≡ 2 ^ (e % 16)
-bit-is e = let small : e % 16 < 16 = omega arith in rw one-mul (mod-eq-of-lt (pow-lt small))
+pub bit-is : (e : ℕ) → (1 * 2 ^ (e % eventEnd)) % listEnd ≡ 2 ^ (e % eventEnd)
+bit-is e = let small : e % eventEnd < eventEnd = omega arith in rw one-mul (mod-eq-of-lt (pow-lt small))
 
 -- with that bit joined to the events, the task wakes or stays
 module _ (e x : ℕ) (r : Task) (m : Bool) (bit : x ≡ 2 ^ e) (is : m ≡ met (r .operator) (r .list) (bitOr (r .arrived) x)) where
-  pub wakes-is : (eqb (r .state) 2 && m) ≡ true → asWoken (withArrived (bitOr (r .arrived) x) r) ≡ signalled e r
+  pub wakes-is : (eqb (r .state) waiting && m) ≡ true → asWoken (withArrived (bitOr (r .arrived) x) r) ≡ signalled e r
   unfolding signalled arrive woken
   wakes-is h = rw (← bit, ← is, h)
 
-  pub stays-is : (eqb (r .state) 2 && m) ≡ false → withArrived (bitOr (r .arrived) x) r ≡ signalled e r
+  pub stays-is : (eqb (r .state) waiting && m) ≡ false → withArrived (bitOr (r .arrived) x) r ≡ signalled e r
   unfolding signalled arrive woken
   stays-is h = rw (← bit, ← is, h)

@@ -15,7 +15,7 @@ use Rattle.rules.specs.Validity.{timerRight}
 use Rattle.rules.proofs.Bools.{same-test}
 use Rattle.timers.specs.Fits.{timerFits}
 
--- the state read at the owner's number modulo 32 serves, since an owner past the columns never fits
+-- the state read at the owner's number modulo the room serves, since an owner past the columns never fits
 pub fits-right : (tasks owners ticks : ℕ) (states : List ℕ) (r : Timer) → owners ≡ min tasks taskRoom → length states ≡ taskRoom
     → timerFits owners (getD states (r .owner % taskRoom) 0) ticks r ≡ timerRight tasks states ticks r
 unfolding timerFits timerRight all

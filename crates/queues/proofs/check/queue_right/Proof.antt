@@ -1,4 +1,4 @@
--- The three flags are the definition's three parts, and a queue's number is below 8, so that it is its own remainder.
+-- The three flags are the definition's three parts, and a queue's number is below their room, so that it is its own remainder.
 use borrow.Author.Needs.{needs}
 use native.Mathlib.Nat.{mod-eq-of-lt}
 use Rattle.rules.specs.Checks.{queueRight}

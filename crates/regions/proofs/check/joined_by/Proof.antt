@@ -3,6 +3,7 @@ use borrow.Author.Needs.{needs}
 use Prim.Native.Nat.{_≤_, _-_}
 use mathlib.Core.Path.{_≡_}
 use lib.ListN.{drop}
+use Rattle.rules.specs.Numbers.{regionRoom}
 use Rattle.rules.proofs.Counts.{ends}
 use Rattle.regions.specs.Joined.{joined}
 use Rattle.regions.proofs.Joining.{joined-again, joined-end}
@@ -10,10 +11,10 @@ use Rattle.regions.proofs.check.joined_by.Statement.{statement}
 use Rattle.regions.proofs.check.joined_by.Tie as tie
 
 abbrev Inv-loop : tie.InvT-loop
-Inv-loop holder bits₀ i₀ bits i = (i ≤ 16) × (joined bits (drop i holder) ≡ joined 0 holder)
+Inv-loop holder bits₀ i₀ bits i = (i ≤ regionRoom) × (joined bits (drop i holder) ≡ joined 0 holder)
 
 abbrev μ-loop : tie.MeasureT-loop
-μ-loop holder bits₀ i₀ bits i = 16 - i
+μ-loop holder bits₀ i₀ bits i = regionRoom - i
 
 loop-holds : tie.Need-loop-holds Inv-loop μ-loop
 loop-holds c = search needs

@@ -7,13 +7,14 @@ use mathlib.Core.Bool.{true}
 use lib.Dec.{ltb}
 use lib.ListN.{take, getD}
 use borrow.Author.Tests.{lt-ltb}
+use Rattle.rules.specs.Numbers.{taskRoom, priorityEnd}
 use Rattle.rules.specs.Words.{every}
 use Rattle.tables.proofs.Fills.{filled, filled-again, filled-end, every-again, every-end}
 use Rattle.tables.proofs.configuration.priorities_of.Statement.{statement}
 use Rattle.tables.proofs.configuration.priorities_of.Tie as tie
 
 abbrev Inv-loop : tie.InvT-loop
-Inv-loop tasks priorities out₀ i₀ out i = (i ≤ tasks) × (out ≡ filled 32 i priorities) × (true ≡ every (λ p. ltb p 256) (take i priorities))
+Inv-loop tasks priorities out₀ i₀ out i = (i ≤ tasks) × (out ≡ filled taskRoom i priorities) × (true ≡ every (λ p. ltb p priorityEnd) (take i priorities))
 
 abbrev μ-loop : tie.MeasureT-loop
 μ-loop tasks priorities out₀ i₀ out i = tasks - i
@@ -35,10 +36,10 @@ loop-less : tie.Need-loop-less Inv-loop μ-loop
 loop-less c = search needs
 
 loop-again : tie.Need-loop-again Inv-loop μ-loop
-loop-again c = (search needs, filled-again _ _ _ _ (c .before .before .loop .inv .1) (search needs) (search needs), every-again (λ p. ltb p 256) (c .before .before .loop .i) (c .before .before .before .args .priorities .now) _ _ (c .before .before .loop .inv .2) (sym (lt-ltb (getD (c .before .before .before .args .priorities .now) (c .before .before .loop .i) 0) 256 (omega (arith, c .shared-slice-known .given (c .before .before .loop .i))))) (search needs))
+loop-again c = (search needs, filled-again _ _ _ _ (c .before .before .loop .inv .1) (search needs) (search needs), every-again (λ p. ltb p priorityEnd) (c .before .before .loop .i) (c .before .before .before .args .priorities .now) _ _ (c .before .before .loop .inv .2) (sym (lt-ltb (getD (c .before .before .before .args .priorities .now) (c .before .before .loop .i) 0) priorityEnd (omega (arith, c .shared-slice-known .given (c .before .before .loop .i))))) (search needs))
 
 returns : tie.Need-returns Inv-loop μ-loop
-returns c = (filled-end _ _ _ _ (c .before .before .args .tasks) (c .before .loop .inv .1) (search needs) (search needs) (search needs), sym (every-end (λ p. ltb p 256) (c .before .loop .i) (c .before .before .args .priorities .now) (c .before .before .args .tasks) _ (c .before .loop .inv .2) (search needs) (search needs)))
+returns c = (filled-end _ _ _ _ (c .before .before .args .tasks) (c .before .loop .inv .1) (search needs) (search needs) (search needs), sym (every-end (λ p. ltb p priorityEnd) (c .before .loop .i) (c .before .before .args .priorities .now) (c .before .before .args .tasks) _ (c .before .loop .inv .2) (search needs) (search needs)))
 
 pub priorities-of-spec : {M : Type 1} → statement M
 priorities-of-spec =

@@ -6,7 +6,7 @@ use mathlib.Core.Bool.{true}
 use lib.ListN.{take}
 use borrow.Author.Tests.{lt-ltb}
 use Rattle.rules.specs.Words.{every}
-use Rattle.rules.specs.Numbers.{tickEnd}
+use Rattle.rules.specs.Numbers.{tickEnd, timerRoom}
 use Rattle.rules.specs.Validity.{timerRight, timersRight}
 use Rattle.timers.proofs.CheckLoops.{every-again, every-not, every-end}
 use Rattle.timers.proofs.Fits.{judged}
@@ -14,10 +14,10 @@ use Rattle.timers.proofs.check.timers_right.Statement.{statement}
 use Rattle.timers.proofs.check.timers_right.Tie as tie
 
 abbrev Inv-loop : tie.InvT-loop
-Inv-loop tasks ticks state timers owners i₀ i = (i ≤ 16) × (true ≡ every (timerRight tasks state ticks) (take i timers))
+Inv-loop tasks ticks state timers owners i₀ i = (i ≤ timerRoom) × (true ≡ every (timerRight tasks state ticks) (take i timers))
 
 abbrev μ-loop : tie.MeasureT-loop
-μ-loop tasks ticks state timers owners i₀ i = 16 - i
+μ-loop tasks ticks state timers owners i₀ i = timerRoom - i
 
 owners-of-requires : tie.Need-owners-of-requires Inv-loop μ-loop
 owners-of-requires c κs = search needs

@@ -5,6 +5,7 @@ use mathlib.Core.Path.{_≡_, refl, _∙_}
 use mathlib.Core.Logic.{⊎-elim}
 use lib.ListN.{drop}
 use borrow.Author.Tests.{ltb-true}
+use Rattle.rules.specs.Numbers.{timerRoom}
 use Rattle.rules.proofs.Bools.{and-right}
 use Rattle.timers.specs.Signals.{rungRows}
 use Rattle.timers.proofs.Signals.{row-signalled, row-left, rows-again, rows-end}
@@ -12,10 +13,10 @@ use Rattle.timers.proofs.ring.rung_rows.Statement.{statement}
 use Rattle.timers.proofs.ring.rung_rows.Tie as tie
 
 abbrev Inv-loop : tie.InvT-loop
-Inv-loop ticks rows₀ timers k₀ rows k = (k ≤ 16) × (rungRows ticks (drop k timers) rows ≡ rungRows ticks timers rows₀)
+Inv-loop ticks rows₀ timers k₀ rows k = (k ≤ timerRoom) × (rungRows ticks (drop k timers) rows ≡ rungRows ticks timers rows₀)
 
 abbrev μ-loop : tie.MeasureT-loop
-μ-loop ticks rows₀ timers k₀ rows k = 16 - k
+μ-loop ticks rows₀ timers k₀ rows k = timerRoom - k
 
 loop-holds : tie.Need-loop-holds Inv-loop μ-loop
 loop-holds c = (search needs, refl)
