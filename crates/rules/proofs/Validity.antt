@@ -18,7 +18,7 @@ use Rattle.rules.specs.Checks.{rowZero, tasksRight, regionsRight, entrie
 use Rattle.rules.proofs.Bools.{given, shown, _&_, and-left, and-right, same-test}
 use Rattle.rules.proofs.Counts.{below-all, within-all, past-all}
 use Rattle.rules.proofs.Rules.{Rules, rules-of, valid-of, Parts, counts-fit}
-use Rattle.rules.proofs.ValidTasks.{RowAt, zeroAt, tasks-gathered, row-right, row-zero}
+use Rattle.rules.proofs.ValidTasks.{RowAt, tasks-gathered, row-right, row-zero}
 use Rattle.rules.proofs.ValidRegions.{regions-gathered, entries-gathered, holder-gathered, entry-fits, same-holder, free-past, entries-fit, uncounted, holder-is-ready, holder-is-elected}
 use Rattle.rules.proofs.ValidQueues.{queues-gathered, used, unused, zeros-behind}
 

@@ -9,7 +9,7 @@ use lib.ListN.{getD}
 use borrow.Author.Tests.{eqb-true, le-ltb, leb-true, leb-false}
 use Rattle.rules.specs.Numbers.{taskRoom}
 use Rattle.rules.specs.Words.{isZero, all, below, past}
-use Rattle.rules.proofs.Bools.{and-left, and-right, same-test, given, shown}
+use Rattle.rules.proofs.Bools.{and-left, and-right, same-test, _&_, given, shown}
 use Rattle.rules.proofs.Counts.{below-again, past-all}
 use Rattle.rules.specs.Checks.{rowRight, rowZero, rowFits, tasksRight}
 use Rattle.rules.proofs.ValidTasks.{row-given}
@@ -32,7 +32,7 @@ zero-is priority state arrived list operator =
     let p = and-left (isZero priority) (isZero state) none in
     let z = and-right (isZero priority) (isZero state) none in
     let r = row-given priority 0 arrived list operator (rw (← eqb-true state 0 z) right) in
-    shown _ (p, (z, (r .state-right, (and-left (isZero list) _ (r .rest), (and-right (isZero list) _ (r .rest), tt))))))
+    shown _ (p & z & r .state-right & and-left (isZero list) _ (r .rest) & and-right (isZero list) _ (r .rest) & tt))
     (λ h.
     let (p, (z, (a, (l, (o, rest))))) = given _ h in
     rw (eqb-true priority 0 p, eqb-true state 0 z, eqb-true arrived 0 a, eqb-true list 0 l, eqb-true operator 0 o) none-right)

@@ -6,7 +6,7 @@ use lib.ListN.{drop}
 use Rattle.rules.specs.Numbers.{regionRoom}
 use Rattle.rules.specs.Regions.{held}
 use Rattle.rules.proofs.Counts.{ends}
-use Rattle.regions.proofs.Scan.{held-again, held-here, held-end}
+use Rattle.regions.proofs.Holders.{held-again, held-here, held-end}
 use Rattle.regions.proofs.holder.held_by.Statement.{statement}
 use Rattle.regions.proofs.holder.held_by.Tie as tie
 

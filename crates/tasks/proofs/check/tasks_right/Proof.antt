@@ -12,7 +12,9 @@ use Rattle.tasks.proofs.check.tasks_right.Statement.{statement}
 use Rattle.tasks.proofs.check.tasks_right.Tie as tie
 
 abbrev Inv-loop : tie.InvT-loop
-Inv-loop tasks priority state arrived list operator rest ok₀ i₀ ok i = (i ≤ taskRoom) × (ok ≡ below i (λ j. rowRight (getD priority j 0) (getD state j 0) (getD arrived j 0) (getD list j 0) (getD operator j 0)))
+Inv-loop tasks priority state arrived list operator rest ok₀ i₀ ok i =
+    (i ≤ taskRoom)
+    × (ok ≡ below i (λ j. rowRight (getD priority j 0) (getD state j 0) (getD arrived j 0) (getD list j 0) (getD operator j 0)))
 
 abbrev μ-loop : tie.MeasureT-loop
 μ-loop tasks priority state arrived list operator rest ok₀ i₀ ok i = taskRoom - i

@@ -1,10 +1,10 @@
--- After i turns the first i timers are as they should be, and sixteen are all.
+-- After i turns the first i timers are as they should be, and at the end of the room that is all of them.
 use borrow.Author.Needs.{needs}
 use Prim.Native.Nat.{_≤_, _-_}
 use mathlib.Core.Path.{_≡_}
 use Rattle.rules.specs.Numbers.{timerRoom}
 use Rattle.rules.specs.Timers.{disarmed}
-use Rattle.timers.proofs.ArmingLoops.{mapped, mapped-start, mapped-again, mapped-end}
+use Rattle.timers.proofs.Mapped.{mapped, mapped-start, mapped-again, mapped-end}
 use Rattle.timers.proofs.arm.disarmed_all.Statement.{statement}
 use Rattle.timers.proofs.arm.disarmed_all.Tie as tie
 

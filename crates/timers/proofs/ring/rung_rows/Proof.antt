@@ -1,4 +1,4 @@
--- What the columns are now and what is still to be rung make the whole, and sixteen timers are all.
+-- What the columns are now and what is still to be rung make the whole, and at the end of the room that is all of them.
 use borrow.Author.Needs.{needs}
 use Prim.Native.Nat.{_≤_, _-_}
 use mathlib.Core.Path.{_≡_, refl, _∙_}
@@ -43,7 +43,11 @@ loop-less : tie.Need-loop-less Inv-loop μ-loop
 loop-less c = search needs
 
 loop-again : tie.Need-loop-again Inv-loop μ-loop
-loop-again c = (search needs, rows-again _ _ (c .before .before .before .before .before .before .args .t2) _ _ (c .before .before .before .before .before .loop .inv .1) (⊎-elim (λ w. row-signalled _ _ _ (c .before .is-due .ensures) (w .0 .taken) (w .2 ∙ w .1 .ensures)) (λ w. row-left _ _ _ (c .before .is-due .ensures) (w .0 .left) (w .1)) (c .if1 .came)) (search needs))
+loop-again c =
+    let loop = c .before .before .before .before .before in
+    let due = c .before .is-due .ensures in
+    let here = ⊎-elim (λ w. row-signalled _ _ _ due (w .0 .taken) (w .2 ∙ w .1 .ensures)) (λ w. row-left _ _ _ due (w .0 .left) (w .1)) (c .if1 .came) in
+    (search needs, rows-again _ _ (loop .before .args .t2) _ _ (loop .loop .inv .1) here (search needs))
 
 returns : tie.Need-returns Inv-loop μ-loop
 returns c = rows-end _ (c .before .loop .k) (c .before .before .args .t2) _ (c .before .loop .inv .1) (search needs)
