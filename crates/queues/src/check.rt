@@ -1,6 +1,5 @@
 // The check of the queues: each bound and length fits, nothing but 0 lies behind a queue, and every criterion is in range.
-use crate::behind::criteria_behind;
-use crate::behind::elements_behind;
+use crate::behind::zero_behind;
 use rules::CRITERIA;
 use rules::PLACES;
 use rules::QUEUES;
@@ -35,9 +34,8 @@ fn queue_right<'a>(
     ensures { λ r. ⌜ r ≡ queueRight queues q bound n (now (element .entry)) (now (criterion .entry)) ⌝ }
 {
     let fits = bound_fits(queues, q, bound, n);
-    let elements = elements_behind(element, q, n);
-    let criteria = criteria_behind(criterion, q, n);
-    fits & (elements & criteria)
+    let rest = zero_behind(element, criterion, q, n);
+    fits & rest
 }
 
 // Whether every queue is right, those past the count too.

@@ -43,6 +43,13 @@ or-keeps false b b′ k h = k h
 pub not-intro : (b : Bool) → b ≡ false → not b ≡ true
 not-intro b h = simp h
 
+-- four tests in another order
+pub and-swap : (a b c d : Bool) → ((a && b) && (c && d)) ≡ ((a && c) && (b && d))
+and-swap true true c d = refl
+and-swap true false true d = refl
+and-swap true false false d = refl
+and-swap false b c d = refl
+
 -- two tests that pass together are one
 pub same-test : (a b : Bool) → (a ≡ true → b ≡ true) → (b ≡ true → a ≡ true) → a ≡ b
 same-test true b f g = sym (f refl)

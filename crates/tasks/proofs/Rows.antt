@@ -9,7 +9,7 @@ use lib.ListN.{getD}
 use borrow.Author.Tests.{eqb-true, le-ltb, leb-true, leb-false}
 use Rattle.rules.specs.Numbers.{taskRoom}
 use Rattle.rules.specs.Words.{isZero, all, below, past}
-use Rattle.rules.proofs.Bools.{and-left, and-right, same-test, _&_, given, shown}
+use Rattle.rules.proofs.Bools.{and-left, and-right, and-swap, same-test, _&_, given, shown}
 use Rattle.rules.proofs.Counts.{below-again, past-all}
 use Rattle.rules.specs.Checks.{rowRight, rowZero, rowFits, tasksRight}
 use Rattle.rules.proofs.ValidTasks.{row-given}
@@ -60,17 +60,11 @@ module _ (tasks : ℕ) (q : ℕ → Bool) where
 -- ---- all of them
 
 -- two tests of every number are one
-swapped : (a b c d : Bool) → ((a && b) && (c && d)) ≡ ((a && c) && (b && d))
-swapped true true c d = refl
-swapped true false true d = refl
-swapped true false false d = refl
-swapped false b c d = refl
-
 below-both : (n : ℕ) (p q r : ℕ → Bool) → ((i : ℕ) → (p i && q i) ≡ r i) → (below n p && below n q) ≡ below n r
 unfolding below
 below-both zero p q r h = refl
 below-both (suc n) p q r h =
-    swapped (below n p) (p n) (below n q) (q n) ∙ ap (λ b. b && (p n && q n)) (below-both n p q r h) ∙ ap (λ b. below n r && b) (h n)
+    and-swap (below n p) (p n) (below n q) (q n) ∙ ap (λ b. b && (p n && q n)) (below-both n p q r h) ∙ ap (λ b. below n r && b) (h n)
 
 row-is : (b : Bool) (priority state arrived list operator : ℕ)
     → (rowRight priority state arrived list operator && (b || (isZero priority && isZero state)))

@@ -9,7 +9,7 @@ use Rattle.rules.specs.Numbers.{storeSize}
 use Rattle.rules.specs.Words.{every}
 use Rattle.rules.specs.Validity.{criterionInRange, criteriaInRange}
 use Rattle.rules.proofs.Counts.{ends}
-use Rattle.queues.proofs.Range.{range-start, range-again, range-end}
+use Rattle.queues.proofs.Scans.{range-start, range-again, range-end}
 use Rattle.queues.proofs.check.criteria_right.Statement.{statement}
 use Rattle.queues.proofs.check.criteria_right.Tie as tie
 
