@@ -21,7 +21,9 @@ use Rattle.rules.specs.Effects.{Effect, plain, ticked, effect}
 use Rattle.rules.specs.Step.{accepted, step}
 use Rattle.rules.proofs.Bools.{or-right}
 use Rattle.rules.proofs.Queues.{Sound, queue-length, sent-stored}
-use Rattle.rules.proofs.Validity.{Parts, parts-of, sound, bound-below}
+use Rattle.rules.proofs.Rules.{Parts}
+use Rattle.rules.proofs.ValidQueues.{sound, bound-below}
+use Rattle.rules.proofs.Validity.{parts-of}
 use Rattle.rules.proofs.Refusals.{Accepted, accepted-facts}
 use Rattle.queues.specs.Gaps.{closedIn}
 use Rattle.queues.specs.Places.{placeIn}
@@ -29,7 +31,7 @@ use Rattle.queues.proofs.Places.{place-is, none-is, given-is, taken-is}
 use Rattle.timers.proofs.Signals.{ticked-is}
 use Rattle.tasks.specs.Effects.{target, taskAfter}
 use Rattle.refusals.proofs.Refused.{room, send-there, retrieve-there}
-use Rattle.tables.specs.Fronts.{told}
+use Rattle.tables.specs.Fronts.{answered}
 use Rattle.calls.specs.TaskMade.{suspended, keepsState, stateKept, stateChanged, taskMadeAt, taskMade}
 use Rattle.calls.specs.RegionMade.{regionMade}
 use Rattle.calls.specs.QueueMade.{endOf, sendMade, retrieveMade}
@@ -41,13 +43,13 @@ unfolding step
 accepted-is t c h = rw h
 
 -- with status 0 or 1 the elected task reported is the table's own
-as-told : (u : Table) (b : Bool) → done u (cond b 1 0) 0 0 ≡ told u (cond b 1 0) 0 0
+as-told : (u : Table) (b : Bool) → done u (cond b 1 0) 0 0 ≡ answered u (cond b 1 0) 0 0
 as-told u true = refl
 as-told u false = refl
 
 -- what the code answers where only the queues' arrays change
 abbrev stored : Table → List ℕ → List ℕ → List ℕ → ℕ → ℕ → ℕ → Done
-stored t lengths es cs value key who = told (withElected who (withStore lengths es cs t)) 0 value key
+stored t lengths es cs value key who = answered (withElected who (withStore lengths es cs t)) 0 value key
 
 -- an entry stored again where it stands
 set-own : (xs : List ℕ) (i : ℕ) → set xs i (getD xs i 0) ≡ xs
@@ -107,7 +109,7 @@ module _ (t : Table) (c : Call) (z : refusal t c ≡ 0) where
   pub timer-step : 10 ≤ c .operation → c .operation < 12 → timerMade t c ≡ step t c
   timer-step l h =
       let row : c .a % 16 ≡ c .a = mod-eq-of-lt (timer-there t c facts l h) in
-      rw row (sym (accepted-is t c z ∙ ap accepted (timer-effect t c facts l h) ∙ ap (λ who. told (withElected who (timerMadeAt (c .a) t c .table)) 0 0 0) elected-same))
+      rw row (sym (accepted-is t c z ∙ ap accepted (timer-effect t c facts l h) ∙ ap (λ who. answered (withElected who (timerMadeAt (c .a) t c .table)) 0 0 0) elected-same))
 
   pub tick-step : 12 ≤ c .operation → tickMade t ≡ step t c
   unfolding effect

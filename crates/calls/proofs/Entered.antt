@@ -10,12 +10,12 @@ use Rattle.rules.specs.Tables.{regionOf, withRegion, withElected, electionOf}
 use Rattle.rules.specs.Election.{electedBy}
 use Rattle.rules.proofs.Election.{election-by}
 use Rattle.regions.specs.Effects.{regionAfter}
-use Rattle.tables.specs.Fronts.{told}
+use Rattle.tables.specs.Fronts.{answered}
 use Rattle.calls.specs.RegionMade.{regionMadeAt}
 
 pub region-made : (t : Table) (c : Call) (at mine mine′ : ℕ) → mine ≡ mine′ → (after : Region) (v who : ℕ)
     → after ≡ regionAfter c mine (regionOf t at) → v ≡ held (set (t .holder) at (after .holder)) → who ≡ electedBy v (t .state) (t .priority)
-    → told (withElected who (withRegion at after t)) 0 0 0 ≡ regionMadeAt at mine′ t c
+    → answered (withElected who (withRegion at after t)) 0 0 0 ≡ regionMadeAt at mine′ t c
 region-made t c at mine mine′ m after v who p q r =
     let elects : who ≡ electionOf (withRegion at after t) = r ∙ rw q (election-by _ _ _) in
     rw (elects, p, m) refl

@@ -9,14 +9,14 @@ use Rattle.rules.specs.Queues.{firstPlace}
 use Rattle.rules.specs.Tables.{withStore}
 use Rattle.tables.specs.declared.front.Front.{Front}
 use Rattle.tables.specs.declared.front.FrontDone.{FrontDone}
-use Rattle.tables.specs.Fronts.{whole, storeless, frontDone, told}
+use Rattle.tables.specs.Fronts.{whole, storeless, frontDone, answered}
 use Rattle.queues.specs.Gaps.{closedIn}
 use Rattle.queues.specs.Places.{placeIn}
 use Rattle.calls.specs.QueueMade.{endOf, sendMade, retrieveMade}
 
 -- the front with the call's queue of length n, and this value and key given out
 abbrev pub given : Front → Call → ℕ → ℕ → ℕ → FrontDone
-given f k n value key = frontDone (told (withStore (set (f .length) (k .a % queueRoom) n) [] [] (storeless f)) 0 value key)
+given f k n value key = frontDone (answered (withStore (set (f .length) (k .a % queueRoom) n) [] [] (storeless f)) 0 value key)
 
 module _ (f : Front) (k : Call) (es cs : List ℕ) where
   abbrev q : ℕ

@@ -11,13 +11,13 @@ use Rattle.rules.specs.Election.{electedBy}
 use Rattle.rules.proofs.Election.{election-by}
 use Rattle.timers.specs.declared.ring.Rows.{Rows}
 use Rattle.timers.specs.Signals.{rungRows, rowsOf, withRows}
-use Rattle.tables.specs.Fronts.{told}
+use Rattle.tables.specs.Fronts.{answered}
 use Rattle.calls.specs.TimerMade.{tickMade}
 
 pub tick-made : (t : Table) (now v who : ℕ) (rows : Rows) (left : List Timer)
     → now ≡ later (t .ticks) 1 → rows ≡ rungRows now (t .timers) (rowsOf t) → left ≡ map (rung now) (t .timers)
     → v ≡ held (t .holder) → who ≡ electedBy v (rows .state) (t .priority)
-    → told (withElected who (withTimers now left (withRows rows t))) 0 0 0 ≡ tickMade t
+    → answered (withElected who (withTimers now left (withRows rows t))) 0 0 0 ≡ tickMade t
 tick-made t now v who rows left n p q r s =
     let elects : who ≡ electionOf (withRows rows t) = s ∙ rw r (election-by _ _ _) in
     rw (elects, q, p, n) refl

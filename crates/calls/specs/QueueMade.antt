@@ -9,7 +9,7 @@ use Rattle.rules.specs.Queues.{firstPlace}
 use Rattle.rules.specs.Tables.{lengthOf, withStore}
 use Rattle.queues.specs.Gaps.{closedIn}
 use Rattle.queues.specs.Places.{placeIn}
-use Rattle.tables.specs.Fronts.{told}
+use Rattle.tables.specs.Fronts.{answered}
 
 -- the place behind the last element of queue q
 abbrev pub endOf : Table → ℕ → ℕ
@@ -18,7 +18,7 @@ endOf t q = firstPlace q + lengthOf t q
 -- queue q with an element at that place, one longer
 abbrev pub sendMadeAt : ℕ → ℕ → Table → Call → Done
 sendMadeAt q place t c =
-    told (withStore (set (t .length) q ((lengthOf t q + 1) % 256)) (set (t .element) place (c .b)) (set (t .criterion) place (c .c % 256)) t) 0 0 0
+    answered (withStore (set (t .length) q ((lengthOf t q + 1) % 256)) (set (t .element) place (c .b)) (set (t .criterion) place (c .c % 256)) t) 0 0 0
 
 abbrev pub sendMade : Table → Call → Done
 sendMade t c = sendMadeAt (c .a % queueRoom) (endOf t (c .a % queueRoom) % storeSize) t c
@@ -26,7 +26,7 @@ sendMade t c = sendMadeAt (c .a % queueRoom) (endOf t (c .a % queueRoom) % store
 -- queue q without the element at that place, one shorter
 abbrev pub retrieveMadeAt : ℕ → ℕ → Table → Call → Done
 retrieveMadeAt q place t c =
-    told
+    answered
     (withStore (set (t .length) q ((lengthOf t q + 255) % 256)) (closedIn place (endOf t q) (t .element)) (closedIn place (endOf t q) (t .criterion)) t)
     0 (getD (t .element) place 0) (getD (t .criterion) place 0)
 

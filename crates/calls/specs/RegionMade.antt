@@ -6,11 +6,11 @@ use Rattle.rules.specs.declared.Done.{Done}
 use Rattle.rules.specs.Numbers.{regionRoom}
 use Rattle.rules.specs.Tables.{regionOf, withRegion, settled}
 use Rattle.regions.specs.Effects.{regionAfter}
-use Rattle.tables.specs.Fronts.{told}
+use Rattle.tables.specs.Fronts.{answered}
 
 -- region r entered or left by the task whose entry is `mine`
 abbrev pub regionMadeAt : ℕ → ℕ → Table → Call → Done
-regionMadeAt r mine t c = told (settled (withRegion r (regionAfter c mine (regionOf t r)) t)) 0 0 0
+regionMadeAt r mine t c = answered (settled (withRegion r (regionAfter c mine (regionOf t r)) t)) 0 0 0
 
 abbrev pub regionMade : Table → Call → Done
 regionMade t c = regionMadeAt (c .a % regionRoom) ((c .caller + 1) % 256) t c

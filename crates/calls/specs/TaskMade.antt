@@ -11,7 +11,7 @@ use Rattle.rules.specs.Events.{met}
 use Rattle.rules.specs.Tables.{taskOf, withTask, withTimers, settled}
 use Rattle.tasks.specs.Effects.{target, taskAfter}
 use Rattle.timers.specs.Effects.{timersLeft}
-use Rattle.tables.specs.Fronts.{told}
+use Rattle.tables.specs.Fronts.{answered}
 
 -- a WAIT whose condition isn't met
 abbrev pub suspended : Call → Task → Bool
@@ -27,11 +27,11 @@ written i t c = withTask i (taskAfter c (taskOf t i)) t
 
 -- where it keeps its state, nobody is elected afresh
 abbrev pub stateKept : ℕ → Table → Call → Done
-stateKept i t c = told (written i t c) (waits c (taskOf t i)) 0 0
+stateKept i t c = answered (written i t c) (waits c (taskOf t i)) 0 0
 
 -- where it doesn't, its timers are looked at too
 abbrev pub stateChanged : ℕ → Table → Call → Done
-stateChanged i t c = told (settled (withTimers (t .ticks) (timersLeft (c .operation) i (t .timers)) (written i t c))) (waits c (taskOf t i)) 0 0
+stateChanged i t c = answered (settled (withTimers (t .ticks) (timersLeft (c .operation) i (t .timers)) (written i t c))) (waits c (taskOf t i)) 0 0
 
 abbrev pub keepsState : ℕ → Table → Call → Bool
 keepsState i t c = eqb (taskAfter c (taskOf t i) .state) (taskOf t i .state)

@@ -3,6 +3,10 @@ use Prim.Native.Nat.{ℕ, zero, suc, _^_}
 use mathlib.Core.Bool.{Bool, cond}
 use lib.Bits.{bitOr}
 
+-- bits of the code's word of ready tasks: as many as there are tasks, or more
+abbrev pub wordBits : ℕ
+wordBits = 32
+
 -- the numbers below n that pass
 unfoldable pub word : ℕ → (ℕ → Bool) → ℕ
 word zero passes = 0

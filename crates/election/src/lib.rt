@@ -1,4 +1,6 @@
 // Election: the ready task of smallest priority number, and of equals the lowest task number.
+use rules::NOBODY;
+use rules::READY;
 use rules::TASKS;
 ghost use mathlib.Core.Path.{_≡_};
 ghost use mathlib.Core.Bool.{cond, _&&_};
@@ -6,40 +8,50 @@ ghost use Prim.Native.Nat.{_+_, _^_, _<_, _≤_, min};
 ghost use lib.Count.{trailingZeros};
 ghost use lib.Dec.{eqb};
 ghost use lib.ListN.{length};
-ghost use Rattle.rules.specs.Numbers.{taskRoom};
+ghost use Rattle.rules.specs.Numbers.{taskRoom, priorityEnd};
+ghost use Rattle.rules.specs.Tasks.{ready};
 ghost use Rattle.rules.specs.Election.{smallest, lowest, readyAt, priorityAt, bestReady, electedBy};
-ghost use Rattle.election.specs.Words.{word};
+ghost use Rattle.election.specs.Ranks.{notReady, rankOf};
+ghost use Rattle.election.specs.Words.{wordBits, word};
 
-// What is added to the priority number of a task that is not ready: enough to stand behind all of them, and behind 256.
-fn behind(state: u8) -> u16
-    ensures { λ r. ⌜ r ≡ cond (eqb state 1) 0 512 ⌝ }
+// Past every priority number: what the smallest one is where no task is ready.
+const PRIORITY_END: u16 = 256;
+
+// What is added to the priority number of a task that is not ready: enough to stand behind PRIORITY_END.
+const NOT_READY: u16 = 512;
+
+// A word of ready tasks, a bit for each.
+type ReadyWord = u32;
+
+fn handicap(state: u8) -> u16
+    ensures { λ r. ⌜ r ≡ cond (eqb state ready) 0 notReady ⌝ }
 {
-    if state == 1 { 0 } else { 512 }
+    if state == READY { 0 } else { NOT_READY }
 }
 
 // Where a task stands. By this one number both walks below treat every task alike, without a branch, and vectorise.
 fn rank(state: u8, priority: u8) -> u16
-    ensures { λ r. ⌜ r ≡ cond (eqb state 1) 0 512 + priority ⌝ }
+    ensures { λ r. ⌜ r ≡ rankOf state priority ⌝ }
 {
-    behind(state) + (priority as u16)
+    handicap(state) + (priority as u16)
 }
 
 // The smaller of p and the task's priority, if the task is ready.
 fn lesser(state: u8, priority: u8, p: u16) -> u16
-    requires { ⌜ p ≤ 256 ⌝ }
-    ensures { λ r. ⌜ r ≡ cond (eqb state 1) (min priority p) p ⌝ }
+    requires { ⌜ p ≤ priorityEnd ⌝ }
+    ensures { λ r. ⌜ r ≡ cond (eqb state ready) (min priority p) p ⌝ }
 {
     let mine = rank(state, priority);
     if mine < p { mine } else { p }
 }
 
-// The smallest priority number of a ready task, 256 where none is ready.
+// The smallest priority number of a ready task, PRIORITY_END where none is ready.
 fn smallest_of<'a>(state: &'a [u8; TASKS], priority: &'a [u8; TASKS]) -> u16
     requires { ⌜ length (now state) ≡ taskRoom ⌝ }
     requires { ⌜ length (now priority) ≡ taskRoom ⌝ }
     ensures { λ r. ⌜ r ≡ smallest taskRoom (readyAt (now (state .entry))) (priorityAt (now (priority .entry))) ⌝ }
 {
-    let mut p: u16 = 256;
+    let mut p = PRIORITY_END;
     for i in 0..TASKS {
         p = lesser(state[i], priority[i], p);
     }
@@ -47,29 +59,29 @@ fn smallest_of<'a>(state: &'a [u8; TASKS], priority: &'a [u8; TASKS]) -> u16
 }
 
 fn has_it(state: u8, priority: u8, p: u16) -> bool
-    requires { ⌜ p ≤ 256 ⌝ }
-    ensures { λ r. ⌜ r ≡ (eqb state 1 && eqb priority p) ⌝ }
+    requires { ⌜ p ≤ priorityEnd ⌝ }
+    ensures { λ r. ⌜ r ≡ (eqb state ready && eqb priority p) ⌝ }
 {
     rank(state, priority) == p
 }
 
 // Bit i of a word, if it is to be set.
-fn bit_of(set: bool, i: u32) -> u32
-    requires { ⌜ i < 32 ⌝ }
+fn bit_of(set: bool, i: u32) -> ReadyWord
+    requires { ⌜ i < wordBits ⌝ }
     ensures { λ r. ⌜ r ≡ cond set (2 ^ i) 0 ⌝ }
 {
-    let one: u32 = 1;
+    let one: ReadyWord = 1;
     if set { one << i } else { 0 }
 }
 
 // The ready tasks of priority p, as bits.
-fn word_of<'a>(state: &'a [u8; TASKS], priority: &'a [u8; TASKS], p: u16) -> u32
+fn ready_word<'a>(state: &'a [u8; TASKS], priority: &'a [u8; TASKS], p: u16) -> ReadyWord
     requires { ⌜ length (now state) ≡ taskRoom ⌝ }
     requires { ⌜ length (now priority) ≡ taskRoom ⌝ }
-    requires { ⌜ p ≤ 256 ⌝ }
+    requires { ⌜ p ≤ priorityEnd ⌝ }
     ensures { λ r. ⌜ r ≡ word taskRoom (λ i. readyAt (now (state .entry)) i && eqb (priorityAt (now (priority .entry)) i) p) ⌝ }
 {
-    let mut w: u32 = 0;
+    let mut w: ReadyWord = 0;
     for i in 0..TASKS {
         w = w | bit_of(has_it(state[i], priority[i], p), i as u32);
     }
@@ -77,22 +89,22 @@ fn word_of<'a>(state: &'a [u8; TASKS], priority: &'a [u8; TASKS], p: u16) -> u32
 }
 
 // The place of a word's lowest set bit: the number of zeros behind it.
-fn lowest_bit(w: u32) -> u32
-    ensures { λ r. ⌜ r ≡ trailingZeros 32 w ⌝ }
+fn lowest_bit(w: ReadyWord) -> u32
+    ensures { λ r. ⌜ r ≡ trailingZeros wordBits w ⌝ }
 {
     u32::trailing_zeros(w)
 }
 
-// The lowest number of a ready task of priority p, 255 where there is none: the empty word has no bit, and would give 32.
+// The lowest number of a ready task of priority p. Where there is none the word is empty, and would give its width.
 fn lowest_of<'a>(state: &'a [u8; TASKS], priority: &'a [u8; TASKS], p: u16) -> u8
     requires { ⌜ length (now state) ≡ taskRoom ⌝ }
     requires { ⌜ length (now priority) ≡ taskRoom ⌝ }
-    requires { ⌜ p ≤ 256 ⌝ }
+    requires { ⌜ p ≤ priorityEnd ⌝ }
     ensures { λ r. ⌜ r ≡ lowest taskRoom (λ i. readyAt (now (state .entry)) i && eqb (priorityAt (now (priority .entry)) i) p) ⌝ }
 {
-    let w = word_of(state, priority, p);
+    let w = ready_word(state, priority, p);
     if w == 0 {
-        return 255;
+        return NOBODY;
     }
     lowest_bit(w) as u8
 }

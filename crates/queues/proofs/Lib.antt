@@ -1,10 +1,5 @@
--- Laws for this crate's proofs and for those of `criteria_range` and `retrieving`.
--- Laws that the proofs of this crate's functions cite.
--- Laws for this crate's proofs and for those of `retrieving`.
--- Laws for this crate's proofs and for its callers'.
-pub mod ScanLoops
-pub mod Range
-pub mod Gaps
-pub mod Shifts
+-- Laws that the proofs of this crate's functions cite, and what a part of the store means to a table.
+pub mod Scans
 pub mod PlaceLoops
+pub mod Gaps
 pub mod Places

@@ -12,7 +12,7 @@ use lib.Seq.{slice, slice-cons}
 use borrow.Author.Tests.{eq-eqb, ne-eqb, le-leb}
 use Rattle.rules.specs.Numbers.{storeSize}
 use Rattle.rules.specs.Queues.{largest, wanted, before}
-use Rattle.queues.proofs.ScanLoops.{nothing-left}
+use Rattle.queues.proofs.Scans.{nothing-left}
 use Rattle.queues.specs.Places.{placeIn}
 
 -- ---- the largest criterion

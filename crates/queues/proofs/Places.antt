@@ -1,18 +1,18 @@
 -- What a part of the store means to a table: the place that RETRIEVE takes from is its queue's, and the gap closed is its queue without it.
 use Prim.Native.Nat.{ℕ, _+_, _-_, _<_, _≤_}
 use mathlib.Core.Path.{_≡_, _∙_}
+use mathlib.Core.List.{List}
 use native.Mathlib.Omega.{arith}
 use lib.Dec.{leb}
 use lib.ListN.{getD, set}
-use borrow.Author.Tests.{le-leb, leb-true}
+use borrow.Author.Tests.{lt-ltb, le-leb, leb-true}
 use Rattle.rules.specs.declared.Table.{Table}
 use Rattle.rules.specs.Numbers.{queueRoom, storeSize}
-use Rattle.rules.specs.Queues.{pair, noPair, firstPlace, front, place, noneFits, without}
+use Rattle.rules.specs.Queues.{pair, noPair, firstPlace, front, place, noneFits, without, closed}
 use Rattle.rules.specs.Tables.{lengthOf, queueOf, withQueue, withStore}
 use Rattle.rules.proofs.Bools.{same-test}
 use Rattle.rules.proofs.Queues.{Sound, queue-length, queue-criteria, element-at, criterion-at, taken-stored}
 use Rattle.queues.specs.Gaps.{closedIn}
-use Rattle.queues.proofs.Gaps.{closed-is}
 use Rattle.queues.specs.Places.{placeIn}
 
 leb-add : (a m n : ℕ) → leb m n ≡ leb (a + m) (a + n)
@@ -20,6 +20,11 @@ leb-add a m n =
     same-test (leb m n) (leb (a + m) (a + n))
     (λ h. le-leb (a + m) (a + n) (omega (arith, leb-true m n h)))
     (λ h. le-leb m n (omega (arith, leb-true (a + m) (a + n) h)))
+
+-- the gap closed in a part that is there
+pub closed-is : (at end : ℕ) (l : List ℕ) → at < end → end ≤ storeSize → closedIn at end l ≡ closed at end l
+unfolding closedIn
+closed-is at end l h k = rw (lt-ltb at end h, le-leb end storeSize k)
 
 -- ---- RETRIEVE with criterion k from queue q of a table, as the code does it
 

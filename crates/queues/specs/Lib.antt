@@ -1,3 +1,4 @@
 -- The definitions that this crate's contracts cite.
 pub mod Gaps
 pub mod Places
+pub mod Zeros

@@ -1,6 +1,6 @@
 // The check of the queues: each bound and length fits, nothing but 0 lies behind a queue, and every criterion is in range.
-use crate::behind::criteria_behind;
-use crate::behind::elements_behind;
+use crate::behind::zero_behind;
+use rules::CRITERIA;
 use rules::PLACES;
 use rules::QUEUES;
 use rules::STORE;
@@ -11,7 +11,7 @@ ghost use Rattle.rules.specs.Numbers.{queueRoom, storeSize};
 ghost use Rattle.rules.specs.Checks.{boundFits, queueRight, queuesRight};
 ghost use Rattle.rules.specs.Validity.{criteriaInRange};
 
-// Below the count a bound is 1 to 64, and no queue is longer than its bound; past it both are 0.
+// Below the count a bound is in range, and no queue is longer than its bound; past it both are 0.
 fn bound_fits(queues: u8, q: usize, bound: u8, n: u8) -> bool
     ensures { λ r. ⌜ r ≡ boundFits queues q bound n ⌝ }
 {
@@ -34,9 +34,8 @@ fn queue_right<'a>(
     ensures { λ r. ⌜ r ≡ queueRight queues q bound n (now (element .entry)) (now (criterion .entry)) ⌝ }
 {
     let fits = bound_fits(queues, q, bound, n);
-    let elements = elements_behind(element, q, n);
-    let criteria = criteria_behind(criterion, q, n);
-    fits & (elements & criteria)
+    let rest = zero_behind(element, criterion, q, n);
+    fits & rest
 }
 
 // Whether every queue is right, those past the count too.
@@ -61,7 +60,7 @@ pub fn queues_right<'a>(
     right
 }
 
-// Whether every stored criterion is in range. 16 is a power of two: joined bits reach it only where an entry does.
+// Whether every stored criterion is in range. CRITERIA is a power of two: joined bits reach it only where an entry does.
 pub fn criteria_right(criterion: &[u8; STORE]) -> bool
     requires { ⌜ length (now criterion) ≡ storeSize ⌝ }
     ensures { λ r. ⌜ r ≡ criteriaInRange (now (criterion .entry)) ⌝ }
@@ -70,5 +69,5 @@ pub fn criteria_right(criterion: &[u8; STORE]) -> bool
     for i in 0..STORE {
         bits = bits | criterion[i];
     }
-    bits < 16
+    bits < (CRITERIA as u8)
 }

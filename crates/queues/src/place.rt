@@ -1,4 +1,5 @@
 // What RETRIEVE takes: the place of its element in the flat store.
+use rules::LARGEST_PRESENT;
 use rules::STORE;
 ghost use Prim.Native.Nat.{_+_, _≤_, max};
 ghost use mathlib.Core.Path.{_≡_};
@@ -25,12 +26,12 @@ fn largest_of(criterion: &[u8; STORE], from: usize, to: usize) -> u8
     most
 }
 
-// The criterion to look for: 16 means the largest present.
+// The criterion to look for.
 fn wanted_of(criterion: &[u8; STORE], from: usize, to: usize, c: u32) -> u32
     requires { ⌜ (length (now criterion) ≡ storeSize) × (to ≤ storeSize) ⌝ }
     ensures { λ r. ⌜ r ≡ wanted c (slice from to (now (criterion .entry))) ⌝ }
 {
-    if c == 16 {
+    if c == LARGEST_PRESENT {
         largest_of(criterion, from, to) as u32
     } else {
         c

@@ -1,3 +1,3 @@
 -- Laws that the proofs of this crate's functions cite.
-pub mod Scan
-pub mod Joining
+pub mod Holders
+pub mod Bits

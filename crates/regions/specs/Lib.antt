@@ -1,4 +1,3 @@
--- The definitions that this crate's contracts cite.
--- The definition that this crate's contracts cite beside that of the rules.
-pub mod Joined
+-- The definitions that this crate's contracts cite beside those of the rules.
+pub mod Bits
 pub mod Effects

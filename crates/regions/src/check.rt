@@ -1,18 +1,19 @@
 // The check of the regions: all occupied ones have one holder, which is a ready task, and each count fits its region's holder.
+use rules::READY;
 use rules::REGIONS;
 use rules::TASKS;
 ghost use mathlib.Core.Path.{_≡_};
 ghost use lib.ListN.{length};
 ghost use Rattle.rules.specs.Numbers.{taskRoom, regionRoom};
-ghost use Rattle.regions.specs.Joined.{joined};
+ghost use Rattle.regions.specs.Bits.{orAll};
 ghost use Rattle.rules.specs.Checks.{regionFits, regionsRight, holderRight, entriesEverywhere};
 ghost use Rattle.rules.specs.Validity.{entriesFit};
 
-// The entries' bits, joined. Where all occupied regions have the same entry it is this one, and where they have not, `regions_right` finds
+// The bits of all entries. Where all occupied regions have the same entry it is this one, and where they have not, `regions_right` finds
 // that no entry is all of theirs: so the check needs no walk to the first occupied region.
-pub fn joined_by(holder: &[u8; REGIONS]) -> u8
+pub fn holder_bits(holder: &[u8; REGIONS]) -> u8
     requires { ⌜ length (now holder) ≡ regionRoom ⌝ }
-    ensures { λ r. ⌜ r ≡ joined 0 (now (holder .entry)) ⌝ }
+    ensures { λ r. ⌜ r ≡ orAll 0 (now (holder .entry)) ⌝ }
 {
     let mut bits: u8 = 0;
     for i in 0..REGIONS {
@@ -52,7 +53,7 @@ pub fn holder_right(tasks: u8, state: &[u8; TASKS], v: u8) -> bool
         return false;
     }
     let i = (v - 1) as usize;
-    if i < 32 { state[i] == 1 } else { false }
+    if i < TASKS { state[i] == READY } else { false }
 }
 
 // Free and not counted, or held and counted. That a count is at most 255 is in its type.

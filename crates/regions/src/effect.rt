@@ -1,5 +1,6 @@
 // What an accepted ENTER or EXIT does to one region.
 use rules::Call;
+use rules::ENTER;
 use rules::Region;
 ghost use mathlib.Core.Path.{_≡_};
 ghost use Rattle.rules.specs.Regions.{countedDown};
@@ -28,7 +29,7 @@ fn counted_down(r: Region) -> Region
 pub fn region_after(k: Call, mine: u8, r: Region) -> Region
     ensures { λ r1. ⌜ r1 ≡ regionAfter k mine r ⌝ }
 {
-    if k.operation == 6 {
+    if k.operation == ENTER {
         return Region {
             holder: mine,
             entries: std::num::wrapping_add_u8(r.entries, 1),

@@ -4,8 +4,8 @@ mod effect;
 mod holder;
 
 pub use check::entries_right;
+pub use check::holder_bits;
 pub use check::holder_right;
-pub use check::joined_by;
 pub use check::regions_right;
 pub use effect::region_after;
 pub use holder::held_by;

@@ -2,12 +2,13 @@
 use Prim.Native.Nat.{ℕ, zero, suc, _+_, _-_, _<_, _≤_}
 use mathlib.Core.Logic.{_≢_}
 use mathlib.Core.Path.{_≡_, refl, sym, _∙_, ap}
-use mathlib.Core.Bool.{Bool, true, _&&_, and-assoc}
+use mathlib.Core.Bool.{Bool, true, false, _&&_, and-assoc, and-true, true≢false}
 use mathlib.Core.List.{List, [], _∷_, _++_, map}
 use native.Mathlib.Omega.{arith}
 use native.Mathlib.Nat.{le-of-suc-le-suc}
+use native.Mathlib.Numerals.{add-one}
 use lib.ListN.{getD, set, take, drop, length, length-append, length-drop, length-replicate, replicate, List·getD-append}
-use lib.Seq.{length-take-le, getD-append-add}
+use lib.Seq.{take-suc, take-all, length-take-le, getD-append-add}
 use Rattle.rules.specs.Words.{every, altered, padded}
 use Rattle.rules.specs.Queues.{without}
 use Rattle.rules.proofs.Bools.{and-left, and-right, both}
@@ -66,6 +67,24 @@ module _ {ℓ} {A : Type ℓ} (p : A → Bool) where
   pub every-replicate : (n : ℕ) (x : A) → p x ≡ true → every p (replicate n x) ≡ true
   every-replicate zero x h = every-nil
   every-replicate (suc n) x h = every-cons x (replicate n x) h (every-replicate n x h)
+
+-- ---- as loops need it: the test of every entry passed, a turn, a way out and the end
+
+module _ {ℓ} {A : Type ℓ} (p : A → Bool) (i : ℕ) (l : List A) where
+  pub every-again : (d : A) {ok here : Bool} → ok ≡ every p (take i l) → here ≡ p (getD l i d) → i < length l
+      → (ok && here) ≡ every p (take (i + 1) l)
+  unfolding every
+  every-again d k e h = rw (k, e, add-one, take-suc l i d h, every-both, and-true)
+
+  pub every-out : (d : A) {here : Bool} → here ≡ p (getD l i d) → i < length l → here ≡ false → false ≡ every p l
+  every-out d e h f = go (every p l) refl
+    where
+      go : (b : Bool) → every p l ≡ b → false ≡ every p l
+      go true k = absurd (true≢false (sym (every-in p l i d k h) ∙ sym e ∙ f))
+      go false k = sym k
+
+  pub every-end : {ok : Bool} → ok ≡ every p (take i l) → length l ≤ i → ok ≡ every p l
+  every-end k h = k ∙ ap (every p) (take-all i l h)
 
 -- ---- one entry changed
 

@@ -1,14 +1,12 @@
 -- A fresh array filled from a list: what it holds as the loop goes on, and at its end; over any room.
 use Prim.Native.Nat.{ℕ, suc, _+_, _-_, _<_, _≤_}
 use mathlib.Core.Path.{_≡_, sym, _∙_}
-use mathlib.Core.Bool.{Bool, _&&_, and-true}
 use mathlib.Core.List.{List, [], _∷_, _++_, append-assoc}
 use native.Mathlib.Omega.{arith}
 use native.Mathlib.Numerals.{add-one}
 use lib.ListN.{getD, set, length, take, replicate}
 use lib.Seq.{take-suc, length-take-le, set-at}
-use Rattle.rules.specs.Words.{every, padded}
-use Rattle.rules.proofs.Lists.{every-both}
+use Rattle.rules.specs.Words.{padded}
 
 -- the first i entries of the list, and zeros up to the end of the room
 unfoldable pub filled : ℕ → ℕ → List ℕ → List ℕ
@@ -26,12 +24,3 @@ module _ (room i : ℕ) (l s : List ℕ) where
   pub filled-end : (n : ℕ) → s ≡ filled room i l → i ≤ n → n ≤ i → n ≤ length l → s ≡ padded room 0 (take n l)
   unfolding filled padded
   filled-end n e h k m = let same : i ≡ n = omega arith in rw (e, same, length-take-le n l m)
-
--- each of the entries passed
-module _ (p : ℕ → Bool) (i : ℕ) (l : List ℕ) where
-  pub every-again : (ok here : Bool) → ok ≡ every p (take i l) → here ≡ p (getD l i 0) → i < length l → (ok && here) ≡ every p (take (i + 1) l)
-  unfolding every
-  every-again ok here e h k = rw (e, h, add-one, take-suc l i 0 k, every-both, and-true)
-
-  pub every-end : (n : ℕ) (ok : Bool) → ok ≡ every p (take i l) → i ≤ n → n ≤ i → ok ≡ every p (take n l)
-  every-end n ok e h k = let same : i ≡ n = omega arith in rw (← same) e

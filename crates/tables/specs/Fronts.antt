@@ -56,6 +56,6 @@ frontDone d = record { front = frontOf (d .table); answer = d .answer }
 abbrev pub storeless : Front → Table
 storeless f = whole f [] []
 
--- what an accepted call answers: "the elected task is the table's own, as it stands after the call"
-abbrev pub told : Table → ℕ → ℕ → ℕ → Done
-told t status value key = record { table = t; answer = record { status = status; value = value; key = key; elected = t .elected } }
+-- a table with the answer of an accepted call: "the elected task is the table's own, as it stands after the call"
+abbrev pub answered : Table → ℕ → ℕ → ℕ → Done
+answered t status value key = record { table = t; answer = record { status = status; value = value; key = key; elected = t .elected } }

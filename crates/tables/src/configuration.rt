@@ -2,7 +2,10 @@
 use crate::counts::counts_right;
 use rules::Answer;
 use rules::Done;
+use rules::NOBODY;
+use rules::PLACES;
 use rules::QUEUES;
+use rules::READY;
 use rules::REGIONS;
 use rules::STORE;
 use rules::TASKS;
@@ -17,6 +20,7 @@ ghost use mathlib.Core.Bool.{true};
 ghost use Prim.Native.Nat.{_≤_};
 ghost use lib.Dec.{ltb};
 ghost use lib.ListN.{length, take};
+ghost use Rattle.rules.specs.Numbers.{taskRoom, priorityEnd, queueRoom};
 ghost use Rattle.rules.specs.Words.{every, padded};
 ghost use Rattle.rules.specs.Validity.{boundInRange};
 
@@ -59,7 +63,7 @@ fn out_of_range() -> Done
             status: 20,
             value: 0,
             key: 0,
-            elected: 255,
+            elected: NOBODY,
         },
     }
 }
@@ -79,16 +83,16 @@ fn fresh_table(
     t.regions = regions;
     t.queues = queues;
     t.priority = priority;
-    t.state[0] = 1;
+    t.state[0] = READY;
     t.bound = bound;
     t
 }
 
 // The first `tasks` priorities, and zeros behind them. That each is a priority is what their type says.
 fn priorities_of(tasks: usize, priorities: &[u8]) -> [u8; TASKS]
-    requires { ⌜ (tasks ≤ 32) × (tasks ≤ length (now priorities)) ⌝ }
-    ensures copied { λ r. ⌜ r ≡ padded 32 0 (take tasks (now (priorities .entry))) ⌝ }
-    ensures fit { λ r. ⌜ every (λ p. ltb p 256) (take tasks (now (priorities .entry))) ≡ true ⌝ }
+    requires { ⌜ (tasks ≤ taskRoom) × (tasks ≤ length (now priorities)) ⌝ }
+    ensures copied { λ r. ⌜ r ≡ padded taskRoom 0 (take tasks (now (priorities .entry))) ⌝ }
+    ensures fit { λ r. ⌜ every (λ p. ltb p priorityEnd) (take tasks (now (priorities .entry))) ≡ true ⌝ }
 {
     let mut out = [0u8; TASKS];
     for i in 0..tasks {
@@ -99,8 +103,8 @@ fn priorities_of(tasks: usize, priorities: &[u8]) -> [u8; TASKS]
 
 // The first `queues` bounds, and zeros behind them.
 fn bounds_of(queues: usize, bounds: &[u8]) -> [u8; QUEUES]
-    requires { ⌜ (queues ≤ 8) × (queues ≤ length (now bounds)) ⌝ }
-    ensures { λ r. ⌜ r ≡ padded 8 0 (take queues (now (bounds .entry))) ⌝ }
+    requires { ⌜ (queues ≤ queueRoom) × (queues ≤ length (now bounds)) ⌝ }
+    ensures { λ r. ⌜ r ≡ padded queueRoom 0 (take queues (now (bounds .entry))) ⌝ }
 {
     let mut out = [0u8; QUEUES];
     for i in 0..queues {
@@ -112,10 +116,10 @@ fn bounds_of(queues: usize, bounds: &[u8]) -> [u8; QUEUES]
 fn bound_right(bound: u8) -> bool
     ensures { λ r. ⌜ r ≡ boundInRange bound ⌝ }
 {
-    (0 < bound) & (bound <= 64)
+    (0 < bound) & ((bound as usize) <= PLACES)
 }
 
-// Each of the first `queues` bounds is 1 to 64.
+// Each of the first `queues` bounds is in range.
 fn bounds_right(queues: usize, bounds: &[u8]) -> bool
     requires { ⌜ queues ≤ length (now bounds) ⌝ }
     ensures { λ r. ⌜ r ≡ every boundInRange (take queues (now (bounds .entry))) ⌝ }

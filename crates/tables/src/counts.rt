@@ -1,10 +1,15 @@
 // The counts of a table or a configuration.
+use rules::QUEUES;
+use rules::REGIONS;
+use rules::TASKS;
 ghost use mathlib.Core.Path.{_≡_};
 ghost use Rattle.rules.specs.Validity.{countsInRange};
 
-// 1 to 32 tasks, up to 16 regions and 8 queues.
+// At least one task, and no more of anything than there is room for.
 pub fn counts_right(tasks: u8, regions: u8, queues: u8) -> bool
     ensures { λ r. ⌜ r ≡ countsInRange tasks regions queues ⌝ }
 {
-    (0 < tasks) & ((tasks <= 32) & ((regions <= 16) & (queues <= 8)))
+    (0 < tasks)
+        & (((tasks as usize) <= TASKS)
+            & (((regions as usize) <= REGIONS) & ((queues as usize) <= QUEUES)))
 }

@@ -9,10 +9,10 @@ use lib.ListN.{getD}
 use borrow.Author.Tests.{eqb-true, le-ltb, leb-true, leb-false}
 use Rattle.rules.specs.Numbers.{taskRoom}
 use Rattle.rules.specs.Words.{isZero, all, below, past}
-use Rattle.rules.proofs.Bools.{and-left, and-right, same-test, given, shown}
+use Rattle.rules.proofs.Bools.{and-left, and-right, and-swap, same-test, _&_, given, shown}
 use Rattle.rules.proofs.Counts.{below-again, past-all}
 use Rattle.rules.specs.Checks.{rowRight, rowZero, rowFits, tasksRight}
-use Rattle.rules.proofs.Validity.{row-given}
+use Rattle.rules.proofs.ValidTasks.{row-given}
 
 -- ---- past the count
 
@@ -32,7 +32,7 @@ zero-is priority state arrived list operator =
     let p = and-left (isZero priority) (isZero state) none in
     let z = and-right (isZero priority) (isZero state) none in
     let r = row-given priority 0 arrived list operator (rw (← eqb-true state 0 z) right) in
-    shown _ (p, (z, (r .state-right, (and-left (isZero list) _ (r .rest), (and-right (isZero list) _ (r .rest), tt))))))
+    shown _ (p & z & r .state-right & and-left (isZero list) _ (r .rest) & and-right (isZero list) _ (r .rest) & tt))
     (λ h.
     let (p, (z, (a, (l, (o, rest))))) = given _ h in
     rw (eqb-true priority 0 p, eqb-true state 0 z, eqb-true arrived 0 a, eqb-true list 0 l, eqb-true operator 0 o) none-right)
@@ -60,17 +60,11 @@ module _ (tasks : ℕ) (q : ℕ → Bool) where
 -- ---- all of them
 
 -- two tests of every number are one
-swapped : (a b c d : Bool) → ((a && b) && (c && d)) ≡ ((a && c) && (b && d))
-swapped true true c d = refl
-swapped true false true d = refl
-swapped true false false d = refl
-swapped false b c d = refl
-
 below-both : (n : ℕ) (p q r : ℕ → Bool) → ((i : ℕ) → (p i && q i) ≡ r i) → (below n p && below n q) ≡ below n r
 unfolding below
 below-both zero p q r h = refl
 below-both (suc n) p q r h =
-    swapped (below n p) (p n) (below n q) (q n) ∙ ap (λ b. b && (p n && q n)) (below-both n p q r h) ∙ ap (λ b. below n r && b) (h n)
+    and-swap (below n p) (p n) (below n q) (q n) ∙ ap (λ b. b && (p n && q n)) (below-both n p q r h) ∙ ap (λ b. below n r && b) (h n)
 
 row-is : (b : Bool) (priority state arrived list operator : ℕ)
     → (rowRight priority state arrived list operator && (b || (isZero priority && isZero state)))

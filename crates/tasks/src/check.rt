@@ -1,6 +1,9 @@
 // The check of the task columns: every task is right, and past the count it is a stopped one of priority 0, which is all 0.
 use crate::condition::met_by;
+use rules::READY;
+use rules::STOPPED;
 use rules::TASKS;
+use rules::WAITING;
 ghost use mathlib.Core.Path.{_≡_};
 ghost use Rattle.rules.specs.Checks.{rowRight, tasksRight};
 ghost use mathlib.Core.Bool.{_&&_};
@@ -14,9 +17,9 @@ fn row_fits(priority: u8, state: u8, arrived: u16, list: u16, operator: u8) -> b
 {
     let met = met_by(operator, list, arrived);
     let idle = (list == 0) & (operator == 0);
-    let stopped = (state == 0) & (arrived == 0);
-    let waiting = (state == 2) & ((list != 0) & ((operator < 2) & !met));
-    (idle & (stopped | (state == 1))) | waiting
+    let stopped = (state == STOPPED) & (arrived == 0);
+    let waiting = (state == WAITING) & ((list != 0) & ((operator < 2) & !met));
+    (idle & (stopped | (state == READY))) | waiting
 }
 
 // Past the count priority and state are 0. What else is 0 there is so of every stopped task.

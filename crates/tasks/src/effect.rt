@@ -1,8 +1,16 @@
 // What an accepted call does to one task.
 use crate::condition::met_by;
 use crate::signal::signalled_by;
+use rules::CLEAR;
 use rules::Call;
+use rules::END;
+use rules::READY;
+use rules::SIGNAL;
+use rules::START;
+use rules::STOPPED;
 use rules::Task;
+use rules::WAIT;
+use rules::WAITING;
 ghost use mathlib.Core.Path.{_≡_};
 ghost use Rattle.rules.specs.Tasks.{waited, asCleared};
 ghost use Rattle.tasks.specs.Effects.{target, taskAfter};
@@ -12,10 +20,10 @@ pub fn target_of(k: Call) -> u32
     ensures { λ r. ⌜ r ≡ target k ⌝ }
 {
     let operation = k.operation;
-    if operation < 2 {
+    if operation < END {
         return k.a;
     }
-    if operation == 3 {
+    if operation == SIGNAL {
         return k.b;
     }
     k.caller as u32
@@ -28,7 +36,7 @@ fn waited_by(list: u16, operator: u8, r: Task) -> Task
         return r;
     }
     Task {
-        state: 2,
+        state: WAITING,
         arrived: r.arrived,
         list: list,
         operator: operator,
@@ -53,17 +61,17 @@ pub fn task_after(k: Call, r: Task) -> Task
     let list = (k.a % 65536) as u16;
     let operation = k.operation;
     match operation {
-        0 => Task {
-            state: 1,
+        START => Task {
+            state: READY,
             arrived: 0,
             list: 0,
             operator: 0,
         },
-        3 => signalled_by(k.a, r),
-        4 => waited_by(list, (k.b % 256) as u8, r),
-        5 => cleared_by(list, r),
+        SIGNAL => signalled_by(k.a, r),
+        WAIT => waited_by(list, (k.b % 256) as u8, r),
+        CLEAR => cleared_by(list, r),
         _ => Task {
-            state: 0,
+            state: STOPPED,
             arrived: 0,
             list: 0,
             operator: 0,

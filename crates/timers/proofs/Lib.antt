@@ -1,10 +1,5 @@
--- Laws that the proofs of this crate's functions cite.
--- Laws for this crate's proofs and for those of `ringing`.
--- Laws for this crate's proofs and for its callers'.
-pub mod Ahead
-pub mod Ways
-pub mod CheckLoops
+-- Laws that the proofs of this crate's functions cite, and what a tick is to the rules.
+pub mod Dates
 pub mod Fits
-pub mod ArmingLoops
-pub mod Due
+pub mod Mapped
 pub mod Signals

@@ -1,5 +1,5 @@
--- One timer's rule of validity, for code that has read the state of the task at the owner's number modulo 32, and tests owners against the
--- smaller of the count and 32.
+-- One timer's rule of validity, for code that has read the state of the task at the owner's number modulo the room for tasks, and tests
+-- owners against the smaller of the count and that room.
 use Prim.Native.Nat.{ℕ}
 use mathlib.Core.Bool.{Bool, cond, not}
 use mathlib.Core.List.{[], _∷_}

@@ -1,5 +1,5 @@
 -- A tick's signals over the task columns, for every list of timers: a task past the columns isn't there, and an event's number is taken
--- modulo 16. In a valid table neither happens, and this is what the rules say (`ringing`).
+-- modulo their end. In a valid table neither happens, and this is what the rules say (`ringing`).
 use Prim.Native.Nat.{ℕ, _%_}
 use mathlib.Core.Bool.{cond, _&&_}
 use mathlib.Core.List.{List, [], _∷_}

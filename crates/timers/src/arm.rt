@@ -1,6 +1,9 @@
 // What ARM and DISARM make of one timer, and STOP and END of all of them.
 use crate::clock::later_by;
+use rules::ARM;
 use rules::Call;
+use rules::END;
+use rules::STOP;
 use rules::TIMERS;
 use rules::Timer;
 ghost use mathlib.Core.Path.{_≡_};
@@ -72,7 +75,7 @@ pub fn timer_after(k: Call, ticks: u32, r: Timer) -> Timer
     ensures { λ r1. ⌜ r1 ≡ timerAfter k ticks r ⌝ }
 {
     let date = later_by(ticks, k.c);
-    if k.operation == 10 {
+    if k.operation == ARM {
         return armed_timer(k.caller, (k.b % 256) as u8, date);
     }
     disarmed_timer(k.caller, r)
@@ -82,7 +85,7 @@ pub fn timer_after(k: Call, ticks: u32, r: Timer) -> Timer
 pub fn timers_left(operation: u8, task: u8, timers: [Timer; TIMERS]) -> [Timer; TIMERS]
     ensures { λ r. ⌜ r ≡ timersLeft operation task timers ⌝ }
 {
-    if (operation == 1) | (operation == 2) {
+    if (operation == STOP) | (operation == END) {
         return disarmed_all(task, timers);
     }
     timers

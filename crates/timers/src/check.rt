@@ -1,5 +1,8 @@
 // The check of the timers: an armed one is a task's that isn't stopped and has its date ahead; an idle one is all 0.
 use crate::clock::ahead_of;
+use rules::EVENTS;
+use rules::LONGEST_DELAY;
+use rules::STOPPED;
 use rules::TASKS;
 use rules::TIMERS;
 use rules::Timer;
@@ -10,7 +13,7 @@ ghost use lib.ListN.{length, getD};
 ghost use Rattle.rules.specs.Numbers.{taskRoom};
 ghost use Rattle.rules.specs.Validity.{timersRight};
 
-// One timer by its fields, where `state` was read at its owner's number modulo 32. Every test has a way out: an idle timer is done after its
+// One timer by its fields, where `state` is what `state_at` has read for its owner. Every test has a way out: an idle timer is done after its
 // four zeros, and which timers are armed changes too seldom for a processor to guess it wrong.
 fn timer_fits(owners: u8, ticks: u32, armed: u8, owner: u8, event: u8, date: u32, state: u8) -> bool
     ensures { λ b. ⌜ b ≡ timerFits owners state ticks (record { armed = armed; owner = owner; event = event; date = date }) ⌝ }
@@ -21,14 +24,14 @@ fn timer_fits(owners: u8, ticks: u32, armed: u8, owner: u8, event: u8, date: u32
     if owners <= owner {
         return false;
     }
-    if state == 0 {
+    if state == STOPPED {
         return false;
     }
-    if 16 <= event {
+    if EVENTS <= (event as u32) {
         return false;
     }
     let left = ahead_of(date, ticks);
-    (0 < left) & (left <= 2147483647)
+    (0 < left) & (left <= LONGEST_DELAY)
 }
 
 // An owner lies below the count and within the columns.
@@ -42,7 +45,7 @@ fn owners_of(tasks: u8) -> u8
     }
 }
 
-// The state at an owner's number modulo 32, so that every number has one.
+// The state at an owner's number modulo TASKS, so that every number has one.
 fn state_at(owner: u8, state: &[u8; TASKS]) -> u8
     requires { ⌜ length (now state) ≡ taskRoom ⌝ }
     ensures { λ s. ⌜ s ≡ getD (now (state .entry)) (owner % taskRoom) 0 ⌝ }

@@ -17,8 +17,8 @@ use Rattle.rules.specs.Election.{electedBy}
 use Rattle.rules.proofs.Election.{election-by}
 use Rattle.rules.specs.Checks.{tasksRight, regionsRight, entriesEverywhere, holderRight, queuesRight}
 use Rattle.rules.proofs.Validity.{parts-of, valid-is}
-use Rattle.regions.specs.Joined.{joined}
-use Rattle.regions.proofs.Joining.{joined-right, held-right}
+use Rattle.regions.specs.Bits.{orAll}
+use Rattle.regions.proofs.Bits.{bits-right, held-right}
 use Rattle.validity.specs.Lent.{lent, Lengths}
 
 pub shaped-lent : (tasks regions queues elected : ℕ) (priority state arrived list operator holder entries bound lengths element criterion : List ℕ)
@@ -61,7 +61,7 @@ by-holder t s v who h w a b c n d e f g p q r m u x y z =
     rw (p, q, r, m, u, x, y, z, w, h, election-by, valid-is t s) (simp and-true)
 
 -- with v the bits of all entries: the ways out, and the end
-module _ (t : Table) (long : length (t .holder) ≡ regionRoom) (v : ℕ) (h : v ≡ joined 0 (t .holder)) where
+module _ (t : Table) (long : length (t .holder) ≡ regionRoom) (v : ℕ) (h : v ≡ orAll 0 (t .holder)) where
   -- the bits are the holder's entry in every table that is valid
   one : valid t ≡ true → v ≡ held (t .holder)
   one k = h ∙ held-right (t .regions) (t .holder) long (parts-of t k .regions)
@@ -108,8 +108,8 @@ module _ (t : Table) (long : length (t .holder) ≡ regionRoom) (v : ℕ) (h : v
       let dw = not-false (d && eqb (t .elected) who) j in
       let aeg = not-false (a && (e && g)) l in
       let eg = and-right a (e && g) aeg in
-      let right : regionsRight (t .regions) (joined 0 (t .holder)) (t .holder) ≡ true =
+      let right : regionsRight (t .regions) (orAll 0 (t .holder)) (t .holder) ≡ true =
       ap (λ x. regionsRight (t .regions) x (t .holder)) (sym h) ∙ sym r ∙ and-left c n cn in
-      let whole = by-holder t s v who (h ∙ joined-right (t .regions) (t .holder) long right) w a b c n d e f g p q r m u x y z in
+      let whole = by-holder t s v who (h ∙ bits-right (t .regions) (t .holder) long right) w a b c n d e f g p q r m u x y z in
       simp (and-left a (e && g) aeg, and-left c n cn, and-right c n cn, and-left d _ dw, and-right d _ dw, and-left e g eg, and-right e g eg, and-true)
       at whole

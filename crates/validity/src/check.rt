@@ -3,8 +3,8 @@ use election::elected_by;
 use queues::criteria_right;
 use queues::queues_right;
 use regions::entries_right;
+use regions::holder_bits;
 use regions::holder_right;
-use regions::joined_by;
 use regions::regions_right;
 use rules::QUEUES;
 use rules::REGIONS;
@@ -58,7 +58,7 @@ fn valid_of<'a>(
     requires { ⌜ length (now criterion) ≡ storeSize ⌝ }
     ensures { λ r. ⌜ r ≡ valid (lent tasks regions queues elected (now (priority .entry)) (now (state .entry)) (now (arrived .entry)) (now (list .entry)) (now (operator .entry)) (now (holder .entry)) (now (entries .entry)) (now (bound .entry)) (now (lengths .entry)) (now (element .entry)) (now (criterion .entry)) ticks timers) ⌝ }
 {
-    let v = joined_by(holder);
+    let v = holder_bits(holder);
     let held = regions_right(regions, v, holder);
     let counted = entries_right(holder, entries);
     if !(held & counted) {

@@ -6,14 +6,14 @@ use Rattle.election.proofs.Ranks.{rank-fits}
 use Rattle.election.proofs.rank.Statement.{statement}
 use Rattle.election.proofs.rank.Tie as tie
 
-behind-requires : tie.Need-behind-requires
-behind-requires c κs = search needs
+handicap-requires : tie.Need-handicap-requires
+handicap-requires c κs = search needs
 
 add-result : tie.Need-add-result
 add-result c = search (rank-fits, needs)
 
 returns : tie.Need-returns
-returns c = ap (λ x. x + c .before .args .priority) (c .behind .ensures)
+returns c = ap (λ x. x + c .before .args .priority) (c .handicap .ensures)
 
 pub rank-spec : {M : Type 1} → statement M
-rank-spec = tie.close (tie.spec behind-requires add-result returns)
+rank-spec = tie.close (tie.spec handicap-requires add-result returns)

@@ -2,6 +2,7 @@
 use borrow.Author.Needs.{needs}
 use Prim.Native.Nat.{_≤_, _-_}
 use mathlib.Core.Path.{_≡_}
+use Rattle.rules.specs.Numbers.{taskRoom}
 use Rattle.rules.specs.Election.{smallest, readyAt, priorityAt}
 use Rattle.rules.proofs.Election.{smallest-again, smallest-end}
 use Rattle.election.proofs.Ranks.{smallest-within}
@@ -9,10 +10,10 @@ use Rattle.election.proofs.smallest_of.Statement.{statement}
 use Rattle.election.proofs.smallest_of.Tie as tie
 
 abbrev Inv-loop : tie.InvT-loop
-Inv-loop state priority p₀ i₀ p i = (i ≤ 32) × (p ≡ smallest i (readyAt state) (priorityAt priority))
+Inv-loop state priority p₀ i₀ p i = (i ≤ taskRoom) × (p ≡ smallest i (readyAt state) (priorityAt priority))
 
 abbrev μ-loop : tie.MeasureT-loop
-μ-loop state priority p₀ i₀ p i = 32 - i
+μ-loop state priority p₀ i₀ p i = taskRoom - i
 
 loop-holds : tie.Need-loop-holds Inv-loop μ-loop
 unfolding smallest
@@ -37,7 +38,7 @@ loop-again : tie.Need-loop-again Inv-loop μ-loop
 loop-again c = (search needs, smallest-again _ _ _ _ _ (c .before .before .before .before .loop .inv .1) (c .lesser .ensures))
 
 returns : tie.Need-returns Inv-loop μ-loop
-returns c = smallest-end _ 32 _ _ _ (c .before .loop .inv .1) (search needs) (search needs)
+returns c = smallest-end _ taskRoom _ _ _ (c .before .loop .inv .1) (search needs) (search needs)
 
 pub smallest-of-spec : {M : Type 1} → statement M
 smallest-of-spec =

@@ -6,7 +6,7 @@ use mathlib.Core.Bool.{_&&_}
 use lib.Seq.{slice}
 use Rattle.rules.specs.Words.{isZero, every}
 use Rattle.rules.proofs.Counts.{ends}
-use Rattle.queues.proofs.ScanLoops.{zero-again, zero-end}
+use Rattle.queues.proofs.Scans.{zero-again, zero-end}
 use Rattle.queues.proofs.behind.criteria_zero.Statement.{statement}
 use Rattle.queues.proofs.behind.criteria_zero.Tie as tie
 

@@ -1,4 +1,4 @@
--- The bits so far and what is still to be read are below 16 together exactly where every criterion is, since 16 is 2 ^ 4.
+-- The bits so far and what is still to be read are in range together exactly where every criterion is, since its end is a power of two.
 use borrow.Author.Needs.{needs}
 use Prim.Native.Nat.{_-_, _<_}
 use native.Mathlib.Omega.{arith}
@@ -9,7 +9,7 @@ use Rattle.rules.specs.Numbers.{storeSize}
 use Rattle.rules.specs.Words.{every}
 use Rattle.rules.specs.Validity.{criterionInRange, criteriaInRange}
 use Rattle.rules.proofs.Counts.{ends}
-use Rattle.queues.proofs.Range.{range-start, range-again, range-end}
+use Rattle.queues.proofs.Scans.{range-start, range-again, range-end}
 use Rattle.queues.proofs.check.criteria_right.Statement.{statement}
 use Rattle.queues.proofs.check.criteria_right.Tie as tie
 
@@ -34,10 +34,13 @@ loop-less c = search needs
 loop-again : tie.Need-loop-again Inv-loop μ-loop
 loop-again c = let h : c .before .before .loop .i < storeSize = omega arith in search (range-again, ends)
 
+cast-result : tie.Need-cast-result Inv-loop μ-loop
+cast-result c = search needs
+
 returns : tie.Need-returns Inv-loop μ-loop
 returns c = search (range-end, ends)
 
 pub criteria-right-spec : {M : Type 1} → statement M
 criteria-right-spec =
     tie.close
-    (tie.spec Inv-loop μ-loop loop-holds element-copy-out-bits add-i loop-less loop-again returns)
+    (tie.spec Inv-loop μ-loop loop-holds element-copy-out-bits add-i loop-less loop-again cast-result returns)

@@ -5,7 +5,7 @@ use Prim.Native.Nat.{_≤_, _<_, _-_}
 use mathlib.Core.Path.{_≡_}
 use Rattle.rules.specs.Numbers.{storeSize}
 use Rattle.queues.specs.Gaps.{closedIn}
-use Rattle.queues.proofs.Shifts.{shifted, there, shift-start, shift-again, shift-end}
+use Rattle.queues.proofs.Gaps.{shifted, there, shift-start, shift-again, shift-end}
 use Rattle.queues.proofs.gap.close_criteria.Statement.{statement}
 use Rattle.queues.proofs.gap.close_criteria.Tie as tie
 

@@ -1,4 +1,4 @@
--- The test for 16 is the definition's.
+-- The test for the largest present is the definition's.
 use borrow.Author.Needs.{needs}
 use Rattle.rules.proofs.Counts.{tests}
 use Rattle.queues.proofs.place.wanted_of.Statement.{statement}

@@ -3,6 +3,7 @@ use borrow.Author.Needs.{needs}
 use Prim.Native.Nat.{_≤_, _-_}
 use mathlib.Core.Path.{_≡_}
 use lib.ListN.{getD}
+use Rattle.rules.specs.Numbers.{regionRoom}
 use Rattle.rules.specs.Words.{below}
 use Rattle.rules.proofs.Counts.{below-again, below-end}
 use Rattle.rules.specs.Validity.{entriesFit}
@@ -11,10 +12,10 @@ use Rattle.regions.proofs.check.entries_right.Statement.{statement}
 use Rattle.regions.proofs.check.entries_right.Tie as tie
 
 abbrev Inv-loop : tie.InvT-loop
-Inv-loop holder entries ok₀ i₀ ok i = (i ≤ 16) × (ok ≡ below i (λ j. entriesFit (getD holder j 0) (getD entries j 0)))
+Inv-loop holder entries ok₀ i₀ ok i = (i ≤ regionRoom) × (ok ≡ below i (λ j. entriesFit (getD holder j 0) (getD entries j 0)))
 
 abbrev μ-loop : tie.MeasureT-loop
-μ-loop holder entries ok₀ i₀ ok i = 16 - i
+μ-loop holder entries ok₀ i₀ ok i = regionRoom - i
 
 loop-holds : tie.Need-loop-holds Inv-loop μ-loop
 unfolding below
@@ -40,7 +41,7 @@ loop-again c = (search needs, below-again _ _ _ _ (c .before .before .before .be
 
 returns : tie.Need-returns Inv-loop μ-loop
 unfolding entriesEverywhere
-returns c = below-end _ 16 _ _ (c .before .loop .inv .1) (search needs) (search needs)
+returns c = below-end _ regionRoom _ _ (c .before .loop .inv .1) (search needs) (search needs)
 
 pub entries-right-spec : {M : Type 1} → statement M
 entries-right-spec =

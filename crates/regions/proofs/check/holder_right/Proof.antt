@@ -1,7 +1,7 @@
 -- No entry, an entry past the count, a task's, or one past all tasks.
 use borrow.Author.Needs.{needs}
 use Rattle.rules.proofs.Counts.{ends}
-use Rattle.regions.proofs.Joining.{no-holder, holder-past, holder-is, holder-none}
+use Rattle.regions.proofs.Holders.{no-holder, holder-past, holder-is, holder-none}
 use Rattle.regions.proofs.check.holder_right.Statement.{statement}
 use Rattle.regions.proofs.check.holder_right.Tie as tie
 

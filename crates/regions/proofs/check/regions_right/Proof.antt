@@ -3,6 +3,7 @@ use borrow.Author.Needs.{needs}
 use Prim.Native.Nat.{_≤_, _-_}
 use mathlib.Core.Path.{_≡_}
 use lib.ListN.{getD}
+use Rattle.rules.specs.Numbers.{regionRoom}
 use Rattle.rules.specs.Words.{below}
 use Rattle.rules.proofs.Counts.{below-again, below-end}
 use Rattle.rules.specs.Checks.{regionFits, regionsRight}
@@ -10,10 +11,10 @@ use Rattle.regions.proofs.check.regions_right.Statement.{statement}
 use Rattle.regions.proofs.check.regions_right.Tie as tie
 
 abbrev Inv-loop : tie.InvT-loop
-Inv-loop regions v holder ok₀ i₀ ok i = (i ≤ 16) × (ok ≡ below i (λ j. regionFits regions v j (getD holder j 0)))
+Inv-loop regions v holder ok₀ i₀ ok i = (i ≤ regionRoom) × (ok ≡ below i (λ j. regionFits regions v j (getD holder j 0)))
 
 abbrev μ-loop : tie.MeasureT-loop
-μ-loop regions v holder ok₀ i₀ ok i = 16 - i
+μ-loop regions v holder ok₀ i₀ ok i = regionRoom - i
 
 loop-holds : tie.Need-loop-holds Inv-loop μ-loop
 unfolding below
@@ -39,7 +40,7 @@ loop-again c = (search needs, below-again _ _ _ _ (c .before .before .before .lo
 
 returns : tie.Need-returns Inv-loop μ-loop
 unfolding regionsRight
-returns c = below-end _ 16 _ _ (c .before .loop .inv .1) (search needs) (search needs)
+returns c = below-end _ regionRoom _ _ (c .before .loop .inv .1) (search needs) (search needs)
 
 pub regions-right-spec : {M : Type 1} → statement M
 regions-right-spec =

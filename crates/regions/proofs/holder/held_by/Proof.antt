@@ -3,17 +3,18 @@ use borrow.Author.Needs.{needs}
 use Prim.Native.Nat.{_≤_, _-_}
 use mathlib.Core.Path.{_≡_}
 use lib.ListN.{drop}
+use Rattle.rules.specs.Numbers.{regionRoom}
 use Rattle.rules.specs.Regions.{held}
 use Rattle.rules.proofs.Counts.{ends}
-use Rattle.regions.proofs.Scan.{held-again, held-here, held-end}
+use Rattle.regions.proofs.Holders.{held-again, held-here, held-end}
 use Rattle.regions.proofs.holder.held_by.Statement.{statement}
 use Rattle.regions.proofs.holder.held_by.Tie as tie
 
 abbrev Inv-loop : tie.InvT-loop
-Inv-loop holder i₀ i = (i ≤ 16) × (held (drop i holder) ≡ held holder)
+Inv-loop holder i₀ i = (i ≤ regionRoom) × (held (drop i holder) ≡ held holder)
 
 abbrev μ-loop : tie.MeasureT-loop
-μ-loop holder i₀ i = 16 - i
+μ-loop holder i₀ i = regionRoom - i
 
 loop-holds : tie.Need-loop-holds Inv-loop μ-loop
 loop-holds c = search needs

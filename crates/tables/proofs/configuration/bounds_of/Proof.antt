@@ -2,12 +2,13 @@
 use borrow.Author.Needs.{needs}
 use Prim.Native.Nat.{_≤_, _-_}
 use mathlib.Core.Path.{_≡_}
+use Rattle.rules.specs.Numbers.{queueRoom}
 use Rattle.tables.proofs.Fills.{filled, filled-again, filled-end}
 use Rattle.tables.proofs.configuration.bounds_of.Statement.{statement}
 use Rattle.tables.proofs.configuration.bounds_of.Tie as tie
 
 abbrev Inv-loop : tie.InvT-loop
-Inv-loop queues bounds out₀ i₀ out i = (i ≤ queues) × (out ≡ filled 8 i bounds)
+Inv-loop queues bounds out₀ i₀ out i = (i ≤ queues) × (out ≡ filled queueRoom i bounds)
 
 abbrev μ-loop : tie.MeasureT-loop
 μ-loop queues bounds out₀ i₀ out i = queues - i

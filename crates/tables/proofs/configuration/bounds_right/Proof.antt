@@ -5,7 +5,8 @@ use mathlib.Core.Path.{_≡_}
 use lib.ListN.{take}
 use Rattle.rules.specs.Words.{every}
 use Rattle.rules.specs.Validity.{boundInRange}
-use Rattle.tables.proofs.Fills.{every-again, every-end}
+use Rattle.rules.proofs.Counts.{at-end}
+use Rattle.rules.proofs.Lists.{every-again}
 use Rattle.tables.proofs.configuration.bounds_right.Statement.{statement}
 use Rattle.tables.proofs.configuration.bounds_right.Tie as tie
 
@@ -32,10 +33,16 @@ loop-less : tie.Need-loop-less Inv-loop μ-loop
 loop-less c = search needs
 
 loop-again : tie.Need-loop-again Inv-loop μ-loop
-loop-again c = (search needs, every-again boundInRange (c .before .before .before .loop .i) (c .before .before .before .before .before .args .bounds .now) _ _ (c .before .before .before .loop .inv .1) (c .bound-right .ensures) (search needs))
+loop-again c =
+    let loop = c .before .before .before in
+    let bounds = loop .before .before .args .bounds .now in
+    (search needs, every-again boundInRange (loop .loop .i) bounds 0 (loop .loop .inv .1) (c .bound-right .ensures) (search needs))
 
 returns : tie.Need-returns Inv-loop μ-loop
-returns c = every-end boundInRange (c .before .loop .i) (c .before .before .before .args .bounds .now) (c .before .before .before .args .queues) _ (c .before .loop .inv .1) (search needs) (search needs)
+returns c =
+    let loop = c .before in
+    let args = loop .before .before .args in
+    at-end (λ n. every boundInRange (take n (args .bounds .now))) (loop .loop .i) (args .queues) (loop .loop .inv .1) (search needs) (search needs)
 
 pub bounds-right-spec : {M : Type 1} → statement M
 bounds-right-spec =

@@ -3,6 +3,7 @@ use borrow.Author.Needs.{needs}
 use Prim.Native.Nat.{_≤_, _-_}
 use mathlib.Core.Path.{_≡_}
 use lib.ListN.{getD}
+use Rattle.rules.specs.Numbers.{taskRoom}
 use Rattle.rules.specs.Words.{below}
 use Rattle.rules.proofs.Counts.{below-again, below-end}
 use Rattle.rules.specs.Checks.{rowRight}
@@ -11,10 +12,12 @@ use Rattle.tasks.proofs.check.tasks_right.Statement.{statement}
 use Rattle.tasks.proofs.check.tasks_right.Tie as tie
 
 abbrev Inv-loop : tie.InvT-loop
-Inv-loop tasks priority state arrived list operator rest ok₀ i₀ ok i = (i ≤ 32) × (ok ≡ below i (λ j. rowRight (getD priority j 0) (getD state j 0) (getD arrived j 0) (getD list j 0) (getD operator j 0)))
+Inv-loop tasks priority state arrived list operator rest ok₀ i₀ ok i =
+    (i ≤ taskRoom)
+    × (ok ≡ below i (λ j. rowRight (getD priority j 0) (getD state j 0) (getD arrived j 0) (getD list j 0) (getD operator j 0)))
 
 abbrev μ-loop : tie.MeasureT-loop
-μ-loop tasks priority state arrived list operator rest ok₀ i₀ ok i = 32 - i
+μ-loop tasks priority state arrived list operator rest ok₀ i₀ ok i = taskRoom - i
 
 rest-zero-requires : tie.Need-rest-zero-requires Inv-loop μ-loop
 rest-zero-requires c κs = search needs
@@ -57,7 +60,7 @@ loop-again : tie.Need-loop-again Inv-loop μ-loop
 loop-again c = (search needs, below-again _ _ _ _ (c .before .before .before .before .before .before .before .loop .inv .1) (c .row-fits .ensures))
 
 returns : tie.Need-returns Inv-loop μ-loop
-returns c = tasks-is _ _ _ _ _ _ (below-end _ 32 _ _ (c .before .loop .inv .1) (search needs) (search needs)) (c .before .before .rest-zero .ensures)
+returns c = tasks-is _ _ _ _ _ _ (below-end _ taskRoom _ _ (c .before .loop .inv .1) (search needs) (search needs)) (c .before .before .rest-zero .ensures)
 
 pub tasks-right-spec : {M : Type 1} → statement M
 tasks-right-spec =

@@ -1,6 +1,7 @@
 -- One arm for each kind of change; STOP and END are the rest.
 use borrow.Author.Needs.{needs}
 use borrow.Author.Tests.{eq-eqb, ne-eqb}
+use Rattle.rules.specs.Numbers.{START, SIGNAL, WAIT, CLEAR}
 use Rattle.tasks.specs.Effects.{taskAfter}
 use Rattle.tasks.proofs.effect.task_after.Statement.{statement}
 use Rattle.tasks.proofs.effect.task_after.Tie as tie
@@ -22,7 +23,7 @@ cleared-by-requires c κs = search needs
 
 returns : tie.Need-returns
 unfolding taskAfter
-returns c = rw (eq-eqb _ 0 (c .match .keys1))
+returns c = rw (eq-eqb _ START (c .match .keys1))
 
 returns-2 : tie.Need-returns-2
 unfolding taskAfter
@@ -38,7 +39,9 @@ returns-4 c = rw (c .before .match .keys4) (c .cleared-by .ensures)
 
 returns-5 : tie.Need-returns-5
 unfolding taskAfter
-returns-5 c = rw (ne-eqb _ 0 (c .match .rest .0 .0 .0 .1), ne-eqb _ 3 (c .match .rest .0 .0 .1), ne-eqb _ 4 (c .match .rest .0 .1), ne-eqb _ 5 (c .match .rest .1))
+returns-5 c =
+    let others = c .match .rest in
+    rw (ne-eqb _ START (others .0 .0 .0 .1), ne-eqb _ SIGNAL (others .0 .0 .1), ne-eqb _ WAIT (others .0 .1), ne-eqb _ CLEAR (others .1))
 
 pub task-after-spec : {M : Type 1} → statement M
 task-after-spec =

@@ -1,6 +1,6 @@
--- One bit is joined to the events, and the task wakes exactly where the condition is met.
+-- One bit is added to the events, and the task wakes exactly where the condition is met.
 use borrow.Author.Needs.{needs}
-use Rattle.tasks.proofs.Woken.{bit-is, wakes-is, stays-is}
+use Rattle.tasks.proofs.Signals.{bit-is, wakes-is, stays-is}
 use Rattle.tasks.proofs.signal.signalled_by.Statement.{statement}
 use Rattle.tasks.proofs.signal.signalled_by.Tie as tie
 

@@ -1,17 +1,18 @@
--- After i turns the first i timers are as they should be, and sixteen are all.
+-- After i turns the first i timers are as they should be, and at the end of the room that is all of them.
 use borrow.Author.Needs.{needs}
 use Prim.Native.Nat.{_≤_, _-_}
 use mathlib.Core.Path.{_≡_}
+use Rattle.rules.specs.Numbers.{timerRoom}
 use Rattle.rules.specs.Timers.{disarmed}
-use Rattle.timers.proofs.ArmingLoops.{mapped, mapped-start, mapped-again, mapped-end}
+use Rattle.timers.proofs.Mapped.{mapped, mapped-start, mapped-again, mapped-end}
 use Rattle.timers.proofs.arm.disarmed_all.Statement.{statement}
 use Rattle.timers.proofs.arm.disarmed_all.Tie as tie
 
 abbrev Inv-loop : tie.InvT-loop
-Inv-loop task timers₀ i₀ timers i = (i ≤ 16) × (timers ≡ mapped (disarmed task) i timers₀)
+Inv-loop task timers₀ i₀ timers i = (i ≤ timerRoom) × (timers ≡ mapped (disarmed task) i timers₀)
 
 abbrev μ-loop : tie.MeasureT-loop
-μ-loop task timers₀ i₀ timers i = 16 - i
+μ-loop task timers₀ i₀ timers i = timerRoom - i
 
 loop-holds : tie.Need-loop-holds Inv-loop μ-loop
 loop-holds c = (search needs, mapped-start _ _)

@@ -16,7 +16,10 @@ returns : tie.Need-returns
 returns c = search needs
 
 returns-2 : tie.Need-returns-2
-returns-2 c = let past : length (c .before .args .t1) ≤ c .before .args .i = search needs in rw (List·getD-eq-default (c .before .args .t1) idle past)
+returns-2 c =
+    let a = c .before .args in
+    let past : length (a .t1) ≤ a .i = search needs in
+    rw (List·getD-eq-default (a .t1) idle past)
 
 pub others-at-spec : {M : Type 1} → statement M
 others-at-spec = tie.close (tie.spec mul-r array-copy-out-r returns returns-2)

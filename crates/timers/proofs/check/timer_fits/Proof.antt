@@ -1,6 +1,6 @@
 -- Each way out is a rule that the timer breaks, and past all of them the date decides.
 use borrow.Author.Needs.{needs}
-use Rattle.timers.proofs.Ways.{not-armed, no-owner, owner-stopped, no-event, dated}
+use Rattle.timers.proofs.Fits.{not-armed, no-owner, owner-stopped, no-event, dated}
 use Rattle.timers.proofs.check.timer_fits.Statement.{statement}
 use Rattle.timers.proofs.check.timer_fits.Tie as tie
 

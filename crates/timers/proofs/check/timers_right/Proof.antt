@@ -1,23 +1,24 @@
--- Every timer passed is right, a way out has one that is not, and sixteen are all.
+-- Every timer passed is right, a way out has one that is not, and at the end of the room that is all of them.
 use borrow.Author.Needs.{needs}
 use Prim.Native.Nat.{_≤_, _-_}
-use mathlib.Core.Path.{_≡_}
+use mathlib.Core.Path.{_≡_, sym, _∙_}
 use mathlib.Core.Bool.{true}
 use lib.ListN.{take}
-use borrow.Author.Tests.{lt-ltb}
+use borrow.Author.Tests.{lt-ltb, not-true, not-false}
 use Rattle.rules.specs.Words.{every}
-use Rattle.rules.specs.Numbers.{tickEnd}
+use Rattle.rules.specs.Numbers.{tickEnd, timerRoom}
+use Rattle.rules.specs.Timers.{idle}
 use Rattle.rules.specs.Validity.{timerRight, timersRight}
-use Rattle.timers.proofs.CheckLoops.{every-again, every-not, every-end}
+use Rattle.rules.proofs.Lists.{every-again, every-out, every-end}
 use Rattle.timers.proofs.Fits.{judged}
 use Rattle.timers.proofs.check.timers_right.Statement.{statement}
 use Rattle.timers.proofs.check.timers_right.Tie as tie
 
 abbrev Inv-loop : tie.InvT-loop
-Inv-loop tasks ticks state timers owners i₀ i = (i ≤ 16) × (true ≡ every (timerRight tasks state ticks) (take i timers))
+Inv-loop tasks ticks state timers owners i₀ i = (i ≤ timerRoom) × (true ≡ every (timerRight tasks state ticks) (take i timers))
 
 abbrev μ-loop : tie.MeasureT-loop
-μ-loop tasks ticks state timers owners i₀ i = 16 - i
+μ-loop tasks ticks state timers owners i₀ i = timerRoom - i
 
 owners-of-requires : tie.Need-owners-of-requires Inv-loop μ-loop
 owners-of-requires c κs = search needs
@@ -58,7 +59,16 @@ timer-fits-requires c κs = search needs
 
 returns : tie.Need-returns Inv-loop μ-loop
 unfolding timersRight
-returns c = rw (lt-ltb (c .before .before .before .before .before .before .args .ticks) tickEnd (search needs)) (every-not (timerRight (c .before .before .before .before .before .before .args .tasks) (c .before .before .before .before .before .before .args .state .now) (c .before .before .before .before .before .before .args .ticks)) (c .before .before .before .before .loop .i) (c .before .before .before .before .before .before .args .t3) _ (judged (c .before .before .before .before .before .before .args .tasks) (c .before .before .before .before .before .owners-of .result) (c .before .before .before .before .before .before .args .ticks) (c .before .before .before .before .before .before .args .state .now) _ (c .before .before .before .before .before .owners-of .ensures) (search needs) (c .before .before .state-at .ensures) (c .before .timer-fits .ensures)) (c .if1 .taken) (search needs))
+returns c =
+    let loop = c .before .before .before .before in
+    let owners = loop .before .owners-of in
+    let a = loop .before .before .args in
+    let right = timerRight (a .tasks) (a .state .now) (a .ticks) in
+    let fits =
+    judged (a .tasks) (owners .result) (a .ticks) (a .state .now) _ (owners .ensures) (search needs) (c .before .before .state-at .ensures)
+    (c .before .timer-fits .ensures) in
+    rw (lt-ltb (a .ticks) tickEnd (search needs))
+    (every-out right (loop .loop .i) (a .t3) idle fits (search needs) (not-true _ (c .if1 .taken)))
 
 add-i : tie.Need-add-i Inv-loop μ-loop
 add-i c = search needs
@@ -67,11 +77,24 @@ loop-less : tie.Need-loop-less Inv-loop μ-loop
 loop-less c = search needs
 
 loop-again : tie.Need-loop-again Inv-loop μ-loop
-loop-again c = (search needs, every-again (timerRight (c .before .before .before .before .before .before .args .tasks) (c .before .before .before .before .before .before .args .state .now) (c .before .before .before .before .before .before .args .ticks)) (c .before .before .before .before .loop .i) (c .before .before .before .before .before .before .args .t3) _ (c .before .before .before .before .loop .inv .1) (judged (c .before .before .before .before .before .before .args .tasks) (c .before .before .before .before .before .owners-of .result) (c .before .before .before .before .before .before .args .ticks) (c .before .before .before .before .before .before .args .state .now) _ (c .before .before .before .before .before .owners-of .ensures) (search needs) (c .before .before .state-at .ensures) (c .before .timer-fits .ensures)) (c .if1 .left) (search needs))
+loop-again c =
+    let loop = c .before .before .before .before in
+    let owners = loop .before .owners-of in
+    let a = loop .before .before .args in
+    let right = timerRight (a .tasks) (a .state .now) (a .ticks) in
+    let fits =
+    judged (a .tasks) (owners .result) (a .ticks) (a .state .now) _ (owners .ensures) (search needs) (c .before .before .state-at .ensures)
+    (c .before .timer-fits .ensures) in
+    let again = every-again right (loop .loop .i) (a .t3) idle (loop .loop .inv .1) fits (search needs) in
+    (search needs, sym (not-false _ (c .if1 .left)) ∙ again)
 
 returns-2 : tie.Need-returns-2 Inv-loop μ-loop
 unfolding timersRight
-returns-2 c = rw (lt-ltb (c .before .before .before .args .ticks) tickEnd (search needs)) (every-end (timerRight (c .before .before .before .args .tasks) (c .before .before .before .args .state .now) (c .before .before .before .args .ticks)) (c .before .loop .i) (c .before .before .before .args .t3) (c .before .loop .inv .1) (search needs))
+returns-2 c =
+    let loop = c .before in
+    let a = loop .before .before .args in
+    rw (lt-ltb (a .ticks) tickEnd (search needs))
+    (every-end (timerRight (a .tasks) (a .state .now) (a .ticks)) (loop .loop .i) (a .t3) (loop .loop .inv .1) (search needs))
 
 pub timers-right-spec : {M : Type 1} → statement M
 timers-right-spec =

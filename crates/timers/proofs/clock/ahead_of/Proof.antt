@@ -1,6 +1,6 @@
 -- The machine's difference is how far the date lies ahead.
 use borrow.Author.Needs.{needs}
-use Rattle.timers.proofs.Ahead.{ahead-is}
+use Rattle.timers.proofs.Dates.{ahead-is}
 use Rattle.timers.proofs.clock.ahead_of.Statement.{statement}
 use Rattle.timers.proofs.clock.ahead_of.Tie as tie
 

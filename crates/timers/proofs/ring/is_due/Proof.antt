@@ -1,6 +1,6 @@
 -- No tick is left exactly where the counter has reached the date.
 use borrow.Author.Needs.{needs}
-use Rattle.timers.proofs.Due.{due-is}
+use Rattle.timers.proofs.Dates.{due-is}
 use Rattle.timers.proofs.ring.is_due.Statement.{statement}
 use Rattle.timers.proofs.ring.is_due.Tie as tie
 

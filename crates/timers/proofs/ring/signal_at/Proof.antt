@@ -46,7 +46,7 @@ element-write-rows-4 c = search needs
 
 returns : tie.Need-returns
 unfolding signalledAt
-returns c = ap (λ r. withRow (c .before .before .before .before .before .args .i) r (c .before .before .before .before .before .args .t3)) (c .signalled-by .ensures)
+returns c = let a = c .before .before .before .before .before .args in ap (λ r. withRow (a .i) r (a .t3)) (c .signalled-by .ensures)
 
 pub signal-at-spec : {M : Type 1} → statement M
 signal-at-spec =

@@ -1,17 +1,21 @@
--- Laws of the loops over what lies behind a queue, a turn and the end of each, over the list of entries whatever their width.
-use Prim.Native.Nat.{ℕ, zero, suc, _+_, _<_, _≤_, max}
-use mathlib.Core.Path.{_≡_, refl, ap, _∙_}
+-- Laws of scans of the store without a branch: the joined bits of a part, the stretches that cover what lies behind a queue, and a turn and the end
+-- of a scan for zeros and for criteria in range. They speak of the list of entries, whatever their width.
+use Prim.Native.Nat.{ℕ, zero, suc, _+_, _*_, _^_, _<_, _≤_, max}
+use mathlib.Core.Path.{_≡_, refl, ap, ap₂, _∙_}
 use mathlib.Core.Bool.{Bool, true, false, _&&_, and-assoc, and-true}
 use mathlib.Core.List.{List, [], _∷_}
 use native.Mathlib.Numerals.{add-one}
 use native.Mathlib.Omega.{arith}
-use lib.Bits.{bitOr, or-add-and, and-le-l, and-le-r}
+use lib.Bits.{bitOr, or-add-and, and-le-l, and-le-r, or-lt}
+use lib.Dec.{ltb}
 use lib.ListN.{length, take, getD, drop-of-length-le, length-take}
-use lib.Seq.{slice, slice-cons}
-use borrow.Author.Tests.{eqb-true, eq-eqb}
-use Rattle.rules.specs.Numbers.{places}
+use lib.Seq.{slice, slice-cons, take-all}
+use borrow.Author.Tests.{eqb-true, eq-eqb, ltb-true, lt-ltb}
+use Rattle.rules.specs.Numbers.{storeSize}
 use Rattle.rules.specs.Words.{isZero, every}
-use Rattle.rules.proofs.Bools.{and-left, and-right, both, same-test}
+use Rattle.rules.specs.Validity.{criterionInRange, criteriaInRange}
+use Rattle.rules.proofs.Bools.{and-left, and-right, and-swap, both, same-test}
+use Rattle.queues.specs.Zeros.{zeroPart}
 
 -- ---- joined bits
 
@@ -27,6 +31,20 @@ or-zero a b =
     let x = eqb-true a 0 (and-left (isZero a) (isZero b) h) in
     let y = eqb-true b 0 (and-right (isZero a) (isZero b) h) in
     eq-eqb (bitOr a b) 0 (omega arith))
+
+-- joined bits lie below a power of two where all do
+pub or-below : (k a b : ℕ) → ltb (bitOr a b) (2 ^ k) ≡ (ltb a (2 ^ k) && ltb b (2 ^ k))
+or-below k a b =
+    let m = 2 ^ k in
+    let sum = or-add-and a b in
+    let l = and-le-l a b in
+    let r = and-le-r a b in
+    same-test (ltb (bitOr a b) m) (ltb a m && ltb b m)
+    (λ h. let z = ltb-true (bitOr a b) m h in both (lt-ltb a m (omega arith)) (lt-ltb b m (omega arith)))
+    (λ h.
+    let x = ltb-true a m (and-left (ltb a m) (ltb b m) h) in
+    let y = ltb-true b m (and-right (ltb a m) (ltb b m) h) in
+    lt-ltb (bitOr a b) m (or-lt k a b x y))
 
 -- nothing is left of a part from its end on
 pub nothing-left {ℓ} : {A : Type ℓ} (i to : ℕ) (l : List A) → to ≤ i → slice i to l ≡ []
@@ -61,23 +79,31 @@ module _ {ℓ} {A : Type ℓ} (p : A → Bool) where
   covered (suc a) (suc b) (suc c) zero (x ∷ xs) h i j = absurd (omega arith)
   covered (suc a) (suc b) (suc c) (suc d) (x ∷ xs) h i j = covered a b c d xs (omega arith) (omega arith) (omega arith)
 
--- four stretches of 16 places cover what lies behind a queue, where that is as much as one of them
-module _ (p : ℕ → Bool) (start from second third : ℕ) (l : List ℕ) {a b c d : Bool} where
-  pub stretches : start ≤ from → from ≤ start + 48 → second ≡ max from (start + 16) → third ≡ max from (start + 32)
-      → a ≡ every p (slice from (from + 16) l) → b ≡ every p (slice second (second + 16) l)
-      → c ≡ every p (slice third (third + 16) l) → d ≡ every p (slice (start + 48) (start + places) l)
-      → (a && (b && (c && d))) ≡ every p (slice from (start + places) l)
-  stretches h i e f ea eb ec ed =
+-- and so they do of elements and criteria together
+zeros-cover : (es cs : List ℕ) (a b c d : ℕ) → a ≤ b → b ≤ c → c ≤ d → (zeroPart es cs a c && zeroPart es cs b d) ≡ zeroPart es cs a d
+unfolding zeroPart
+zeros-cover es cs a b c d h i j =
+    and-swap (every isZero (slice a c es)) (every isZero (slice a c cs)) (every isZero (slice b d es)) (every isZero (slice b d cs))
+    ∙ ap₂ _&&_ (covered isZero a b c d es h i j) (covered isZero a b c d cs h i j)
+
+-- four stretches of k places cover what lies behind a queue that starts there, where that is as much as one of them
+module _ (es cs : List ℕ) (k start first second third : ℕ) {a b c d : Bool} where
+  pub four-cover : start ≤ first → first ≤ start + 3 * k → second ≡ max first (start + k) → third ≡ max first (start + 2 * k)
+      → a ≡ zeroPart es cs first (first + k) → b ≡ zeroPart es cs second (second + k) → c ≡ zeroPart es cs third (third + k)
+      → d ≡ zeroPart es cs (start + 3 * k) (start + 4 * k) → (a && (b && (c && d))) ≡ zeroPart es cs first (start + 4 * k)
+  four-cover h i e f ea eb ec ed =
       rw (
         ea,
         eb,
         ec,
         ed,
-        covered p third (start + 48) (third + 16) (start + places) l (omega (arith, f)) (omega (arith, f)) (omega (arith, f)),
-        covered p second third (second + 16) (start + places) l (omega (arith, e, f)) (omega (arith, e, f)) (omega (arith, e, f)),
-        covered p from second (from + 16) (start + places) l (omega (arith, e)) (omega (arith, e)) (omega (arith, e)),
+        zeros-cover es cs third (start + 3 * k) (third + k) (start + 4 * k) (omega (arith, f)) (omega (arith, f)) (omega (arith, f)),
+        zeros-cover es cs second third (second + k) (start + 4 * k) (omega (arith, e, f)) (omega (arith, e, f)) (omega (arith, e, f)),
+        zeros-cover es cs first second (first + k) (start + 4 * k) (omega (arith, e)) (omega (arith, e)) (omega (arith, e)),
       )
       refl
+
+-- ---- a scan
 
 -- a test that joined bits pass where all do: the bits so far, and what is still to be read
 module _ (p : ℕ → Bool) (joins : (a b : ℕ) → p (bitOr a b) ≡ (p a && p b)) (i to bits : ℕ) (l : List ℕ) {z : Bool} where
@@ -97,3 +123,16 @@ module _ (i to bits : ℕ) (l : List ℕ) {z : Bool} where
 
   pub zero-end : (isZero bits && every isZero (slice i to l)) ≡ z → to ≤ i → isZero bits ≡ z
   zero-end = joined-end isZero or-zero i to bits l
+
+-- the end of the criteria is 2 ^ 4
+module _ (i to bits : ℕ) (l : List ℕ) {z : Bool} where
+  pub range-again : (criterionInRange bits && every criterionInRange (slice i to l)) ≡ z → to ≤ length l → i < to
+      → (criterionInRange (bitOr bits (getD l i 0)) && every criterionInRange (slice (i + 1) to l)) ≡ z
+  range-again = joined-again criterionInRange (or-below 4) i to bits l
+
+  pub range-end : (criterionInRange bits && every criterionInRange (slice i to l)) ≡ z → to ≤ i → criterionInRange bits ≡ z
+  range-end = joined-end criterionInRange (or-below 4) i to bits l
+
+pub range-start : (l : List ℕ) → length l ≡ storeSize → every criterionInRange (slice 0 storeSize l) ≡ criteriaInRange l
+unfolding criteriaInRange
+range-start l h = rw (take-all storeSize l (omega arith))

@@ -4,6 +4,6 @@ use mathlib.Core.List.{List, [], _∷_}
 use lib.Bits.{bitOr}
 
 -- the bits of all of them, and those of b
-unfoldable pub joined : ℕ → List ℕ → ℕ
-joined b [] = b
-joined b (h ∷ hs) = joined (bitOr b h) hs
+unfoldable pub orAll : ℕ → List ℕ → ℕ
+orAll b [] = b
+orAll b (h ∷ hs) = orAll (bitOr b h) hs

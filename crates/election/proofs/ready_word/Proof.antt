@@ -4,17 +4,18 @@ use Prim.Native.Nat.{_≤_, _-_}
 use mathlib.Core.Path.{_≡_}
 use mathlib.Core.Bool.{_&&_}
 use lib.Dec.{eqb}
+use Rattle.rules.specs.Numbers.{taskRoom}
 use Rattle.rules.specs.Election.{readyAt, priorityAt}
 use Rattle.election.specs.Words.{word}
 use Rattle.election.proofs.Words.{word-again, word-end}
-use Rattle.election.proofs.word_of.Statement.{statement}
-use Rattle.election.proofs.word_of.Tie as tie
+use Rattle.election.proofs.ready_word.Statement.{statement}
+use Rattle.election.proofs.ready_word.Tie as tie
 
 abbrev Inv-loop : tie.InvT-loop
-Inv-loop state priority p w₀ i₀ w i = (i ≤ 32) × (w ≡ word i (λ j. readyAt state j && eqb (priorityAt priority j) p))
+Inv-loop state priority p w₀ i₀ w i = (i ≤ taskRoom) × (w ≡ word i (λ j. readyAt state j && eqb (priorityAt priority j) p))
 
 abbrev μ-loop : tie.MeasureT-loop
-μ-loop state priority p w₀ i₀ w i = 32 - i
+μ-loop state priority p w₀ i₀ w i = taskRoom - i
 
 loop-holds : tie.Need-loop-holds Inv-loop μ-loop
 unfolding word
@@ -45,10 +46,10 @@ loop-again : tie.Need-loop-again Inv-loop μ-loop
 loop-again c = (search needs, word-again _ _ _ _ (c .before .before .before .before .before .loop .inv .1) (c .before .has-it .ensures) (c .bit-of .ensures))
 
 returns : tie.Need-returns Inv-loop μ-loop
-returns c = word-end _ 32 _ _ (c .before .loop .inv .1) (search needs) (search needs)
+returns c = word-end _ taskRoom _ _ (c .before .loop .inv .1) (search needs) (search needs)
 
-pub word-of-spec : {M : Type 1} → statement M
-word-of-spec =
+pub ready-word-spec : {M : Type 1} → statement M
+ready-word-spec =
     tie.close
     (tie.spec
     Inv-loop
