@@ -153,7 +153,7 @@ module _ (f : Front) (cs : List ℕ) (c : Call) (es : List ℕ) (v : valid (whol
 
   module _ (m : missingIn f c ≡ false) {r : ℕ} where
     pub refused-timer : RETRIEVE < c .operation → r ≡ first (timerReasons (f .timers) c) → r ≡ refusal t c
-    unfolding late timerReasons
+    unfolding late
     refused-timer h p =
         rw (
           late-is,
@@ -168,7 +168,7 @@ module _ (f : Front) (cs : List ℕ) (c : Call) (es : List ℕ) (v : valid (whol
         p
 
     pub refused-queue : EXIT < c .operation → c .operation ≤ RETRIEVE → r ≡ first (queueReasons f cs c) → r ≡ refusal t c
-    unfolding late queueReasons
+    unfolding late
     refused-queue l h p =
         rw (
           late-is,
@@ -183,7 +183,7 @@ module _ (f : Front) (cs : List ℕ) (c : Call) (es : List ℕ) (v : valid (whol
         p
 
     pub refused-task : c .operation ≤ EXIT → r ≡ first (taskReasons f c) → r ≡ refusal t c
-    unfolding late taskReasons
+    unfolding late
     refused-task h p =
         rw (
           late-is,

@@ -20,7 +20,7 @@ wrongTask states c =
     byOperation false (c .operation)
     (not (stoppedAt states (c .a)) ∷ stoppedAt states (c .a) ∷ false ∷ stoppedAt states (c .b) ∷ [])
 
-unfoldable pub taskReasons : Front → Call → List Reason
+abbrev pub taskReasons : Front → Call → List Reason
 taskReasons f c =
     when 19 (eqb (c .operation) WAIT && badOperator (c .b))
     ∷ when 15 (wrongTask (f .state) c)
@@ -40,9 +40,9 @@ lacking lengths criterion c =
     (placeIn (firstPlace (c .a)) (firstPlace (c .a) + getD lengths (c .a) 0) (c .c) criterion))
     false
 
-unfoldable pub queueReasons : Front → List ℕ → Call → List Reason
+abbrev pub queueReasons : Front → List ℕ → Call → List Reason
 queueReasons f criterion c = when 17 (full (f .bound) (f .length) c) ∷ when 18 (lacking (f .length) criterion c) ∷ []
 
 -- TICK and whatever comes behind it have none
-unfoldable pub timerReasons : List Timer → Call → List Reason
+abbrev pub timerReasons : List Timer → Call → List Reason
 timerReasons timers c = when 15 (ltb (c .operation) TICK && othersAt timers (c .caller) (c .a)) ∷ []

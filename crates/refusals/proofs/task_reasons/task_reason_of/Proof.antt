@@ -1,6 +1,5 @@
 -- The picks stand from the last reason to the first, so the chain is the list's first that applies.
 use borrow.Author.Needs.{needs}
-use Rattle.refusals.specs.ByKind.{taskReasons}
 use Rattle.refusals.proofs.task_reasons.task_reason_of.Statement.{statement}
 use Rattle.refusals.proofs.task_reasons.task_reason_of.Tie as tie
 
@@ -26,7 +25,6 @@ pick-requires-4 : tie.Need-pick-requires-4
 pick-requires-4 c κs = search needs
 
 returns : tie.Need-returns
-unfolding taskReasons
 returns c =
     let after-15 = c .before .before .before in
     let after-16 = after-15 .before .before .before .before in
