@@ -16,7 +16,7 @@ use Rattle.rules.specs.declared.Timer.{Timer}
 use Rattle.rules.specs.declared.Table.{Table}
 use Rattle.rules.specs.declared.Call.{Call}
 use Rattle.rules.specs.declared.Done.{Done}
-use Rattle.rules.specs.Numbers.{taskRoom, regionRoom, queueRoom, places, storeSize, timerRoom, nobody, WAIT, ENTER, SEND, RETRIEVE, ARM, TICK}
+use Rattle.rules.specs.Numbers.{taskRoom, regionRoom, queueRoom, places, storeSize, criterionEnd, timerRoom, nobody, WAIT, ENTER, SEND, RETRIEVE, ARM, TICK}
 use Rattle.rules.specs.Events.{met}
 use Rattle.rules.specs.Regions.{held}
 use Rattle.rules.specs.Queues.{Pair, pair, firstPlace}
@@ -167,7 +167,7 @@ module _ (t : Table) (c : Call) (z : refusal t c ≡ 0) where
     unfolding missing
     criterion-fits =
         mod-eq-of-lt
-        (let h = ltb-true (c .c) 16 (not-false _ (or-right (not (ltb (c .a) (t .queues))) _ (rw e at (facts .nothing-missing)))) in omega arith)
+        (let h = ltb-true (c .c) criterionEnd (not-false _ (or-right (not (ltb (c .a) (t .queues))) _ (rw e at (facts .nothing-missing)))) in omega arith)
 
     sent : effect t c
         ≡ plain (withStore (set (t .length) (c .a) (lengthOf t (c .a) + 1)) (set (t .element) (endOf (c .a)) (c .b)) (set (t .criterion) (endOf (c .a)) (c .c)) t)
