@@ -14,7 +14,7 @@ use Rattle.rules.specs.declared.Task.{Task}
 use Rattle.rules.specs.declared.Timer.{Timer}
 use Rattle.rules.specs.declared.Table.{Table}
 use Rattle.rules.specs.declared.Call.{Call}
-use Rattle.rules.specs.Numbers.{taskRoom, regionRoom, mostEntries, timerRoom, eventEnd, outside, STOP, END, SIGNAL, WAIT, ENTER, EXIT, ARM, DISARM, TICK}
+use Rattle.rules.specs.Numbers.{taskRoom, regionRoom, mostEntries, timerRoom, eventEnd, listEnd, outside, STOP, END, SIGNAL, WAIT, CLEAR, ENTER, EXIT, SEND, ARM, DISARM, TICK}
 use Rattle.rules.specs.Words.{isZero}
 use Rattle.rules.specs.Queues.{noPair}
 use Rattle.rules.specs.Events.{met}
@@ -22,7 +22,7 @@ use Rattle.rules.specs.Tasks.{stopped, waited}
 use Rattle.rules.specs.Timers.{idle, later, asArmed, disarmed}
 use Rattle.rules.specs.Tables.{taskOf, regionOf, changed, withRegion, withTimers}
 use Rattle.rules.specs.Validity.{countsInRange}
-use Rattle.rules.specs.Refusals.{missing, wrongState}
+use Rattle.rules.specs.Refusals.{missing, badList, wrongState}
 use Rattle.rules.specs.Effects.{Effect, plain, effect}
 use Rattle.rules.proofs.Bools.{given, or-left, or-right}
 use Rattle.rules.proofs.Rules.{Parts}
@@ -71,37 +71,40 @@ module _ (t : Table) (c : Call) (a : Accepted t c) where
   within : (x n : ℕ) → not (ltb x n) ≡ false → x < n
   within x n h = ltb-true x n (not-false (ltb x n) h)
 
-  event-fits : c .operation ≡ 3 → c .a % 16 ≡ c .a
-  unfolding missing
-  event-fits e = mod-eq-of-lt (within (c .a) 16 (or-left _ _ (rw e at (a .nothing-missing))))
+  list-below : (l : ℕ) → badList l ≡ false → l < listEnd
+  list-below l h = let most = ltb-false 65535 l (or-right (isZero l) _ h) in omega arith
 
-  list-below : (c .operation ≡ 4) → c .a < 65536
+  event-fits : c .operation ≡ SIGNAL → c .a % eventEnd ≡ c .a
   unfolding missing
-  list-below e = let h = ltb-false 65535 (c .a) (or-right (isZero (c .a)) _ (rw e at (a .nothing-missing))) in omega arith
+  event-fits e = mod-eq-of-lt (within (c .a) eventEnd (or-left _ _ (rw e at (a .nothing-missing))))
 
-  clear-below : (c .operation ≡ 5) → c .a < 65536
+  waited-fits : c .operation ≡ WAIT → c .a % listEnd ≡ c .a
   unfolding missing
-  clear-below e = let h = ltb-false 65535 (c .a) (or-right (isZero (c .a)) _ (rw e at (a .nothing-missing))) in omega arith
+  waited-fits e = mod-eq-of-lt (list-below (c .a) (rw e at (a .nothing-missing)))
 
-  operator-below : c .operation ≡ 4 → c .b < 256
-  operator-below e = let h = ltb-false 1 (c .b) (rw e at (a .operator-fits)) in omega arith
+  cleared-fits : c .operation ≡ CLEAR → c .a % listEnd ≡ c .a
+  unfolding missing
+  cleared-fits e = mod-eq-of-lt (list-below (c .a) (rw e at (a .nothing-missing)))
+
+  operator-fits : c .operation ≡ WAIT → c .b % 256 ≡ c .b
+  operator-fits e = mod-eq-of-lt (let h = ltb-false 1 (c .b) (rw e at (a .operator-fits)) in omega arith)
 
   -- ---- which task
 
   abbrev TargetBelow : ℕ → Type 0
   TargetBelow n = c .operation ≡ n → target c < t .tasks
 
-  pub target-below : c .operation < 6 → target c < t .tasks
+  pub target-below : c .operation < ENTER → target c < t .tasks
   unfolding target missing
   target-below h =
-      upto 6 TargetBelow (
+      upto ENTER TargetBelow (
         λ e. rw e (within (c .a) (t .tasks) (rw e at (a .nothing-missing))),
         (
           λ e. rw e (within (c .a) (t .tasks) (rw e at (a .nothing-missing))),
           (
             λ e. rw e (caller-below (omega arith) (omega arith)),
             (
-              λ e. rw e (within (c .b) (t .tasks) (or-right (not (ltb (c .a) 16)) _ (rw e at (a .nothing-missing)))),
+              λ e. rw e (within (c .b) (t .tasks) (or-right (not (ltb (c .a) eventEnd)) _ (rw e at (a .nothing-missing)))),
               (
                 λ e. rw e (caller-below (omega arith) (omega arith)),
                 (λ e. rw e (caller-below (omega arith) (omega arith)), tt),
@@ -151,10 +154,10 @@ module _ (t : Table) (c : Call) (a : Accepted t c) where
         given = noPair;
       }
 
-  pub task-effect : c .operation < 6 → effect t c ≡ taskEffect
+  pub task-effect : c .operation < ENTER → effect t c ≡ taskEffect
   unfolding effect target taskAfter
   task-effect h =
-      upto 6 (λ n. c .operation ≡ n → effect t c ≡ taskEffect) (
+      upto ENTER (λ n. c .operation ≡ n → effect t c ≡ taskEffect) (
         λ e. rw e refl,
         (
           λ e. rw e refl,
@@ -163,8 +166,8 @@ module _ (t : Table) (c : Call) (a : Accepted t c) where
             (
               λ e. rw (e, event-fits e) refl,
               (
-                λ e. rw (e, mod-eq-of-lt (list-below e), mod-eq-of-lt (operator-below e)) (waits (c .caller)),
-                (λ e. rw (e, mod-eq-of-lt (clear-below e)) refl, tt),
+                λ e. rw (e, waited-fits e, operator-fits e) (waits (c .caller)),
+                (λ e. rw (e, cleared-fits e) refl, tt),
               ),
             ),
           ),
@@ -185,14 +188,14 @@ module _ (t : Table) (c : Call) (a : Accepted t c) where
 
   -- ---- ENTER and EXIT as one change of one region
 
-  enter-or-exit : 5 < c .operation → c .operation < 8 → (c .operation ≡ ENTER) ⊎ (c .operation ≡ EXIT)
+  enter-or-exit : ENTER ≤ c .operation → c .operation < SEND → (c .operation ≡ ENTER) ⊎ (c .operation ≡ EXIT)
   enter-or-exit l h = go (eqb (c .operation) ENTER) refl
     where
       go : (b : Bool) → eqb (c .operation) ENTER ≡ b → (c .operation ≡ ENTER) ⊎ (c .operation ≡ EXIT)
       go true e = inl (eqb-true (c .operation) ENTER e)
       go false e = let n : c .operation ≢ ENTER = eqb-false (c .operation) ENTER e in inr (omega arith)
 
-  pub region-there : 5 < c .operation → c .operation < 8 → c .a < t .regions
+  pub region-there : ENTER ≤ c .operation → c .operation < SEND → c .a < t .regions
   unfolding missing
   region-there l h =
       ⊎-elim (λ e. within (c .a) (t .regions) (rw e at (a .nothing-missing)))
@@ -210,21 +213,21 @@ module _ (t : Table) (c : Call) (a : Accepted t c) where
       let more : n ≢ mostEntries = eqb-false n mostEntries (rw e at (a .may-enter)) in
       mod-eq-of-lt (omega (arith, more)) ∙ add-one n
 
-  pub region-effect : 5 < c .operation → c .operation < 8
+  pub region-effect : ENTER ≤ c .operation → c .operation < SEND
       → effect t c ≡ plain (withRegion (c .a) (regionAfter c (suc (c .caller)) (regionOf t (c .a))) t)
   unfolding effect regionAfter
   region-effect l h = ⊎-elim (λ e. rw (entries-counted e) (rw e refl)) (λ e. rw e refl) (enter-or-exit l h)
 
   -- ---- ARM and DISARM as one change of one timer
 
-  arm-or-disarm : 10 ≤ c .operation → c .operation < 12 → (c .operation ≡ ARM) ⊎ (c .operation ≡ DISARM)
+  arm-or-disarm : ARM ≤ c .operation → c .operation < TICK → (c .operation ≡ ARM) ⊎ (c .operation ≡ DISARM)
   arm-or-disarm l h = go (eqb (c .operation) ARM) refl
     where
       go : (b : Bool) → eqb (c .operation) ARM ≡ b → (c .operation ≡ ARM) ⊎ (c .operation ≡ DISARM)
       go true e = inl (eqb-true (c .operation) ARM e)
       go false e = let n : c .operation ≢ ARM = eqb-false (c .operation) ARM e in inr (omega arith)
 
-  pub timer-there : 10 ≤ c .operation → c .operation < 12 → c .a < timerRoom
+  pub timer-there : ARM ≤ c .operation → c .operation < TICK → c .a < timerRoom
   unfolding missing
   timer-there l h =
       ⊎-elim (λ e. within (c .a) timerRoom (or-left _ _ (rw e at (a .nothing-missing))))
@@ -237,7 +240,7 @@ module _ (t : Table) (c : Call) (a : Accepted t c) where
       let h = within (c .b) eventEnd (or-left _ _ (or-right (not (ltb (c .a) timerRoom)) _ (rw e at (a .nothing-missing)))) in
       mod-eq-of-lt (omega arith)
 
-  pub timer-effect : 10 ≤ c .operation → c .operation < 12
+  pub timer-effect : ARM ≤ c .operation → c .operation < TICK
       → effect t c ≡ plain (withTimers (t .ticks) (set (t .timers) (c .a) (timerAfter c (t .ticks) (getD (t .timers) (c .a) idle))) t)
   unfolding effect timerAfter
   timer-effect l h =

@@ -1,25 +1,34 @@
--- What the code makes of a table for each kind of accepted call is the step of the rules.
+-- What the code builds for each kind of call, of what its callees give it, is the step of the rules, if the call is accepted.
 use Prim.Native.Nat.{ℕ, zero, suc, _+_, _-_, _%_, _<_, _≤_}
 use mathlib.Core.Path.{_≡_, refl, sym, ap, ap₂, _∙_}
-use mathlib.Core.Bool.{Bool, true, false, cond, not}
-use mathlib.Core.List.{List, [], _∷_}
+use mathlib.Core.Logic.{_≢_}
+use mathlib.Core.Bool.{Bool, true, false, cond, not, _&&_, _||_}
+use mathlib.Core.List.{List, [], _∷_, map}
 use native.Mathlib.Omega.{arith}
 use native.Mathlib.Numerals.{add-one}
 use native.Mathlib.Nat.{mod-eq-of-lt}
-use lib.Dec.{ltb}
+use lib.Dec.{eqb, ltb}
 use lib.ListN.{getD, set, length}
-use borrow.Author.Tests.{eqb-true, ltb-true, ltb-false, leb-false, not-false}
+use borrow.Author.Tests.{ne-eqb, ltb-true, ltb-false, leb-false, not-false}
+use Rattle.rules.specs.declared.Task.{Task}
+use Rattle.rules.specs.declared.Region.{Region}
+use Rattle.rules.specs.declared.Timer.{Timer}
 use Rattle.rules.specs.declared.Table.{Table}
 use Rattle.rules.specs.declared.Call.{Call}
 use Rattle.rules.specs.declared.Done.{Done}
-use Rattle.rules.specs.Numbers.{queueRoom, places, SEND, RETRIEVE, TICK}
+use Rattle.rules.specs.Numbers.{taskRoom, regionRoom, queueRoom, places, storeSize, criterionEnd, timerRoom, nobody, WAIT, ENTER, SEND, RETRIEVE, ARM, TICK}
+use Rattle.rules.specs.Events.{met}
+use Rattle.rules.specs.Regions.{held}
 use Rattle.rules.specs.Queues.{Pair, pair, firstPlace}
-use Rattle.rules.specs.Tables.{taskOf, lengthOf, boundOf, queueOf, withTask, withElected, electionOf, withStore}
+use Rattle.rules.specs.Timers.{later, rung}
+use Rattle.rules.specs.Election.{electedBy}
+use Rattle.rules.specs.Tables.{taskOf, regionOf, timerOf, lengthOf, boundOf, queueOf, withTask, withRegion, withElected, electionOf, withStore, withTimers}
 use Rattle.rules.specs.Answers.{done}
 use Rattle.rules.specs.Refusals.{missing, refusal}
 use Rattle.rules.specs.Effects.{Effect, plain, ticked, effect}
 use Rattle.rules.specs.Step.{accepted, step}
 use Rattle.rules.proofs.Bools.{or-right}
+use Rattle.rules.proofs.Election.{election-by}
 use Rattle.rules.proofs.Queues.{Sound, queue-length, sent-stored}
 use Rattle.rules.proofs.Rules.{Parts}
 use Rattle.rules.proofs.ValidQueues.{sound, bound-below}
@@ -28,39 +37,36 @@ use Rattle.rules.proofs.Refusals.{Accepted, accepted-facts}
 use Rattle.queues.specs.Gaps.{closedIn}
 use Rattle.queues.specs.Places.{placeIn}
 use Rattle.queues.proofs.Places.{place-is, none-is, given-is, taken-is}
-use Rattle.timers.proofs.Signals.{ticked-is}
 use Rattle.tasks.specs.Effects.{target, taskAfter}
+use Rattle.regions.specs.Effects.{regionAfter}
+use Rattle.timers.specs.declared.ring.Rows.{Rows}
+use Rattle.timers.specs.Signals.{rungRows, rowsOf, withRows}
+use Rattle.timers.specs.Effects.{timerAfter, timersLeft}
+use Rattle.timers.proofs.Signals.{ticked-is}
 use Rattle.refusals.proofs.Refused.{room, send-there, retrieve-there}
 use Rattle.tables.specs.Fronts.{answered}
-use Rattle.calls.specs.TaskMade.{suspended, keepsState, stateKept, stateChanged, taskMadeAt, taskMade}
-use Rattle.calls.specs.RegionMade.{regionMade}
-use Rattle.calls.specs.QueueMade.{endOf, sendMade, retrieveMade}
-use Rattle.calls.specs.TimerMade.{timerMadeAt, timerMade, tickMade}
 use Rattle.calls.proofs.Accepted.{tasks-fit, regions-fit, target-below, caller-below, region-there, timer-there, still-runs, task-effect, region-effect, timer-effect}
+
+-- a refused call leaves the table as it came in
+pub refused-step : (t : Table) (c : Call) (s who : ℕ) → s ≡ refusal t c → s ≢ 0 → who ≡ cond (eqb s 10 || eqb s 20) nobody (t .elected)
+    → record { table = t; answer = record { status = s; value = 0; key = 0; elected = who } } ≡ step t c
+unfolding step
+refused-step t c s who is n w = rw (← is, ne-eqb s 0 n, w)
 
 accepted-is : (t : Table) (c : Call) → refusal t c ≡ 0 → step t c ≡ accepted (effect t c)
 unfolding step
 accepted-is t c h = rw h
 
 -- with status 0 or 1 the elected task reported is the table's own
-as-told : (u : Table) (b : Bool) → done u (cond b 1 0) 0 0 ≡ answered u (cond b 1 0) 0 0
-as-told u true = refl
-as-told u false = refl
-
--- what the code answers where only the queues' arrays change
-abbrev stored : Table → List ℕ → List ℕ → List ℕ → ℕ → ℕ → ℕ → Done
-stored t lengths es cs value key who = answered (withElected who (withStore lengths es cs t)) 0 value key
+as-answered : (u : Table) (b : Bool) → done u (cond b 1 0) 0 0 ≡ answered u (cond b 1 0) 0 0
+as-answered u true = refl
+as-answered u false = refl
 
 -- an entry stored again where it stands
 set-own : (xs : List ℕ) (i : ℕ) → set xs i (getD xs i 0) ≡ xs
 set-own [] i = refl
 set-own (x ∷ xs) zero = refl
 set-own (x ∷ xs) (suc i) = ap (λ ys. x ∷ ys) (set-own xs i)
-
--- two ways that come to the same
-either : (b : Bool) {x y : Done} → (b ≡ true → x ≡ y) → cond b x y ≡ y
-either true p = p refl
-either false p = refl
 
 module _ (t : Table) (c : Call) (z : refusal t c ≡ 0) where
   facts : Accepted t c
@@ -74,52 +80,75 @@ module _ (t : Table) (c : Call) (z : refusal t c ≡ 0) where
 
   -- ---- START, STOP, END, SIGNAL, WAIT, CLEAR
 
-  -- where the task keeps its state, nobody else is elected and no timer is disarmed
-  state-kept : keepsState (target c) t c ≡ true → stateKept (target c) t c ≡ stateChanged (target c) t c
-  state-kept e =
-      let i = target c in
-      let after = taskAfter c (taskOf t i) in
-      let same = eqb-true (after .state) (taskOf t i .state) e in
-      let states : set (t .state) i (after .state) ≡ t .state = ap (set (t .state) i) same ∙ set-own (t .state) i in
-      let elects : electionOf (withTask i after t) ≡ t .elected = rw states elected-same in
-      rw (elects, still-runs t c facts i refl after refl same) refl
+  module _ (low : c .operation < ENTER) {i : ℕ} (is : i ≡ target c) {after : Task} {m : Bool} {status : ℕ}
+      (p : after ≡ taskAfter c (taskOf t (i % taskRoom))) (q : m ≡ met (c .b % 256) (c .a % 65536) (taskOf t (i % taskRoom) .arrived))
+      (w : status ≡ cond (eqb (c .operation) WAIT && not m) 1 0) where
+    row : i % taskRoom ≡ target c
+    row = rw is (mod-eq-of-lt (omega (arith, target-below t c facts low, tasks-fit t c facts)))
 
-  at-target : c .operation < 6 → taskMadeAt (target c) t c ≡ step t c
-  unfolding taskMadeAt
-  at-target h =
-      either (keepsState (target c) t c) state-kept
-      ∙ sym (accepted-is t c z ∙ ap accepted (task-effect t c facts h) ∙ as-told _ (suspended c (taskOf t (target c))))
+    -- a WAIT whose condition isn't met
+    abbrev suspended : Bool
+    suspended = eqb (c .operation) WAIT && not (met (c .b % 256) (c .a % 65536) (taskOf t (target c) .arrived))
 
-  pub task-step : c .operation < 6 → taskMade t c ≡ step t c
-  task-step h =
-      let row : target c % 32 ≡ target c = mod-eq-of-lt (omega (arith, target-below t c facts h, tasks-fit t c facts)) in
-      rw row (at-target h)
+    pub task-changed : (left : List Timer) (v who : ℕ) → left ≡ timersLeft (c .operation) (i % taskRoom) (t .timers)
+        → v ≡ held (t .holder) → who ≡ electedBy v (set (t .state) (i % taskRoom) (after .state)) (t .priority)
+        → answered (withElected who (withTimers (t .ticks) left (withTask (i % taskRoom) after t))) status 0 0 ≡ step t c
+    task-changed left v who k r s =
+        let elects : who ≡ electionOf (withTask (i % taskRoom) after t) = s ∙ rw r (election-by _ _ _) in
+        rw (elects, k, w, q, p) (rw row (sym (accepted-is t c z ∙ ap accepted (task-effect t c facts low) ∙ as-answered _ suspended)))
+
+    -- where the task keeps its state, nobody else is elected and no timer is disarmed
+    pub task-kept : after .state ≡ taskOf t (i % taskRoom) .state → answered (withTask (i % taskRoom) after t) status 0 0 ≡ step t c
+    task-kept same =
+        let states : set (t .state) (i % taskRoom) (after .state) ≡ t .state = ap (set (t .state) (i % taskRoom)) same ∙ set-own (t .state) (i % taskRoom) in
+        task-changed (t .timers) (held (t .holder)) (t .elected) (rw (still-runs t c facts (i % taskRoom) row after p same) refl) refl
+        (parts .elected ∙ sym (rw states (election-by _ _ _)))
 
   -- ---- ENTER and EXIT
 
-  pub region-step : 5 < c .operation → c .operation < 8 → regionMade t c ≡ step t c
-  region-step l h =
-      let row : c .a % 16 ≡ c .a = mod-eq-of-lt (omega (arith, region-there t c facts l h, regions-fit t c facts)) in
+  pub region-step : ENTER ≤ c .operation → c .operation < SEND → {mine : ℕ} → mine ≡ (c .caller + 1) % 256
+      → {after : Region} {v who : ℕ} → after ≡ regionAfter c mine (regionOf t (c .a % regionRoom))
+      → v ≡ held (set (t .holder) (c .a % regionRoom) (after .holder)) → who ≡ electedBy v (t .state) (t .priority)
+      → answered (withElected who (withRegion (c .a % regionRoom) after t)) 0 0 0 ≡ step t c
+  region-step l h m {after} {who = who} p q r =
+      let row : c .a % regionRoom ≡ c .a = mod-eq-of-lt (omega (arith, region-there t c facts l h, regions-fit t c facts)) in
       let below = caller-below t c facts (omega arith) (omega arith) in
-      let mine : (c .caller + 1) % 256 ≡ suc (c .caller) = mod-eq-of-lt (omega (arith, below, tasks-fit t c facts)) ∙ add-one (c .caller) in
-      rw (row, mine) (sym (accepted-is t c z ∙ ap accepted (region-effect t c facts l h)))
+      let mine-is : (c .caller + 1) % 256 ≡ suc (c .caller) = mod-eq-of-lt (omega (arith, below, tasks-fit t c facts)) ∙ add-one (c .caller) in
+      let elects : who ≡ electionOf (withRegion (c .a % regionRoom) after t) = r ∙ rw q (election-by _ _ _) in
+      rw (elects, p, m, mine-is, row) (sym (accepted-is t c z ∙ ap accepted (region-effect t c facts l h)))
 
   -- ---- ARM, DISARM and TICK
 
-  pub timer-step : 10 ≤ c .operation → c .operation < 12 → timerMade t c ≡ step t c
-  timer-step l h =
-      let row : c .a % 16 ≡ c .a = mod-eq-of-lt (timer-there t c facts l h) in
-      rw row (sym (accepted-is t c z ∙ ap accepted (timer-effect t c facts l h) ∙ ap (λ who. answered (withElected who (timerMadeAt (c .a) t c .table)) 0 0 0) elected-same))
+  pub timer-step : ARM ≤ c .operation → c .operation < TICK → {after : Timer} → after ≡ timerAfter c (t .ticks) (timerOf t (c .a % timerRoom))
+      → answered (withTimers (t .ticks) (set (t .timers) (c .a % timerRoom) after) t) 0 0 0 ≡ step t c
+  timer-step l h {after} p =
+      let row : c .a % timerRoom ≡ c .a = mod-eq-of-lt (timer-there t c facts l h) in
+      let timers = set (t .timers) (c .a) (timerAfter c (t .ticks) (timerOf t (c .a))) in
+      let elects = ap (λ who. answered (withElected who (withTimers (t .ticks) timers t)) 0 0 0) elected-same in
+      rw (p, row) (sym (accepted-is t c z ∙ ap accepted (timer-effect t c facts l h) ∙ elects))
 
-  pub tick-step : 12 ≤ c .operation → tickMade t ≡ step t c
+  pub is-tick : TICK ≤ c .operation → c .operation ≡ TICK
+  is-tick l = let most = ltb-false TICK (c .operation) (facts .known) in omega arith
+
+  pub tick-step : c .operation ≡ TICK → {now v who : ℕ} {rows : Rows} {left : List Timer}
+      → now ≡ later (t .ticks) 1 → rows ≡ rungRows now (t .timers) (rowsOf t) → left ≡ map (rung now) (t .timers)
+      → v ≡ held (t .holder) → who ≡ electedBy v (rows .state) (t .priority)
+      → answered (withElected who (withTimers now left (withRows rows t))) 0 0 0 ≡ step t c
   unfolding effect
-  tick-step l =
-      let most = ltb-false TICK (c .operation) (facts .known) in
-      let e : c .operation ≡ TICK = omega arith in
+  tick-step e {who = who} {rows} n p q r s =
+      let elects : who ≡ electionOf (withRows rows t) = s ∙ rw r (election-by _ _ _) in
       let done-is : effect t c ≡ plain (ticked t) = rw e refl in
-      ap (λ u. accepted (plain u)) (ticked-is t _ _ _ (facts .is-valid) refl refl refl) ∙ sym (accepted-is t c z ∙ ap accepted done-is)
+      rw elects (ap (λ u. accepted (plain u)) (ticked-is t _ _ _ (facts .is-valid) n q p) ∙ sym (accepted-is t c z ∙ ap accepted done-is))
 
   -- ---- SEND and RETRIEVE: nobody is elected again, since neither tasks nor holders change
+
+  -- the place behind the last element of queue q
+  abbrev endOf : ℕ → ℕ
+  endOf q = firstPlace q + lengthOf t q
+
+  -- what the code answers where only the queues' arrays change
+  abbrev stored : List ℕ → List ℕ → List ℕ → ℕ → ℕ → ℕ → Done
+  stored lengths es cs value key who = answered (withElected who (withStore lengths es cs t)) 0 value key
 
   module _ (e : c .operation ≡ SEND) where
     here : c .a < t .queues
@@ -140,43 +169,43 @@ module _ (t : Table) (c : Call) (z : refusal t c ≡ 0) where
     unfolding missing
     criterion-fits =
         mod-eq-of-lt
-        (let h = ltb-true (c .c) 16 (not-false _ (or-right (not (ltb (c .a) (t .queues))) _ (rw e at (facts .nothing-missing)))) in omega arith)
+        (let h = ltb-true (c .c) criterionEnd (not-false _ (or-right (not (ltb (c .a) (t .queues))) _ (rw e at (facts .nothing-missing)))) in omega arith)
 
     sent : effect t c
-        ≡ plain
-        (withStore (set (t .length) (c .a) (lengthOf t (c .a) + 1)) (set (t .element) (firstPlace (c .a) + lengthOf t (c .a)) (c .b))
-        (set (t .criterion) (firstPlace (c .a) + lengthOf t (c .a)) (c .c)) t)
+        ≡ plain (withStore (set (t .length) (c .a) (lengthOf t (c .a) + 1)) (set (t .element) (endOf (c .a)) (c .b)) (set (t .criterion) (endOf (c .a)) (c .c)) t)
     unfolding effect
     sent = rw e (ap plain (sent-stored t (c .a) queue (c .b) (c .c) free))
 
-    pub send-step : sendMade t c ≡ step t c
-    send-step =
-        let row : c .a % 8 ≡ c .a = mod-eq-of-lt within-room in
-        let place : endOf t (c .a) % 512 ≡ endOf t (c .a) = mod-eq-of-lt (omega (arith, within-room, free)) in
-        let longer : (lengthOf t (c .a) + 1) % 256 ≡ lengthOf t (c .a) + 1 = mod-eq-of-lt (omega (arith, free)) in
-        rw row (rw (place, longer, criterion-fits) (sym (accepted-is t c z ∙ ap accepted sent ∙ ap (stored t _ _ _ 0 0) elected-same)))
+    pub send-step : {n : ℕ} → n ≡ (lengthOf t (c .a % queueRoom) + 1) % 256
+        → answered
+        (withStore (set (t .length) (c .a % queueRoom) n) (set (t .element) (endOf (c .a % queueRoom) % storeSize) (c .b))
+        (set (t .criterion) (endOf (c .a % queueRoom) % storeSize) (c .c % 256)) t)
+        0 0 0
+        ≡ step t c
+    send-step longer =
+        let row : c .a % queueRoom ≡ c .a = mod-eq-of-lt within-room in
+        let place : endOf (c .a) % storeSize ≡ endOf (c .a) = mod-eq-of-lt (omega (arith, within-room, free)) in
+        let one-more : (lengthOf t (c .a) + 1) % 256 ≡ lengthOf t (c .a) + 1 = mod-eq-of-lt (omega (arith, free)) in
+        rw (longer, row) (rw (place, one-more, criterion-fits) (sym (accepted-is t c z ∙ ap accepted sent ∙ ap (stored _ _ _ 0 0) elected-same)))
 
   module _ (e : c .operation ≡ RETRIEVE) where
-    held-there : c .a < t .queues
-    held-there = retrieve-there t (facts .is-valid) c (facts .nothing-missing) e
+    within-store : c .a < queueRoom
+    within-store = room t (facts .is-valid) c (retrieve-there t (facts .is-valid) c (facts .nothing-missing) e)
 
     from-queue : Sound t (c .a)
-    from-queue = sound t parts (c .a) (room t (facts .is-valid) c held-there)
-
-    within-store : c .a < queueRoom
-    within-store = room t (facts .is-valid) c held-there
+    from-queue = sound t parts (c .a) within-store
 
     -- RETRIEVE's effect from the table and the pair
     effect-of : Table → Pair → Effect
     effect-of u p = record { table = u; status = 0; given = p }
 
     abbrev placeFound : ℕ
-    placeFound = placeIn (firstPlace (c .a)) (endOf t (c .a)) (c .c) (t .criterion)
+    placeFound = placeIn (firstPlace (c .a)) (endOf (c .a)) (c .c) (t .criterion)
 
-    found : placeFound < endOf t (c .a)
+    found : placeFound < endOf (c .a)
     found =
         let none = sym (none-is t (c .a) from-queue within-store (c .c)) ∙ rw e at (facts .fits) in
-        leb-false (endOf t (c .a)) placeFound none
+        leb-false (endOf (c .a)) placeFound none
 
     -- a queue that gives an element has one
     some : 1 ≤ lengthOf t (c .a)
@@ -184,18 +213,24 @@ module _ (t : Table) (c : Call) (z : refusal t c ≡ 0) where
 
     taken : effect t c
         ≡ effect-of
-        (withStore (set (t .length) (c .a) (lengthOf t (c .a) - 1)) (closedIn placeFound (endOf t (c .a)) (t .element))
-        (closedIn placeFound (endOf t (c .a)) (t .criterion)) t)
+        (withStore (set (t .length) (c .a) (lengthOf t (c .a) - 1)) (closedIn placeFound (endOf (c .a)) (t .element))
+        (closedIn placeFound (endOf (c .a)) (t .criterion)) t)
         (pair (getD (t .element) placeFound 0) (getD (t .criterion) placeFound 0))
     unfolding effect effect-of
     taken =
         rw e
         (ap₂ effect-of (taken-is t (c .a) from-queue within-store (c .c) placeFound refl found) (given-is t (c .a) from-queue within-store (c .c) placeFound refl found))
 
-    pub retrieve-step : retrieveMade t c ≡ step t c
+    pub retrieve-step : {p n : ℕ} {es cs : List ℕ} → p ≡ placeIn (firstPlace (c .a % queueRoom)) (endOf (c .a % queueRoom)) (c .c) (t .criterion)
+        → n ≡ (lengthOf t (c .a % queueRoom) + 255) % 256
+        → es ≡ closedIn (p % storeSize) (endOf (c .a % queueRoom)) (t .element)
+        → cs ≡ closedIn (p % storeSize) (endOf (c .a % queueRoom)) (t .criterion)
+        → answered (withStore (set (t .length) (c .a % queueRoom) n) es cs t) 0 (getD (t .element) (p % storeSize) 0) (getD (t .criterion) (p % storeSize) 0)
+        ≡ step t c
     unfolding effect-of
-    retrieve-step =
-        let row : c .a % 8 ≡ c .a = mod-eq-of-lt within-store in
-        let place : placeFound % 512 ≡ placeFound = mod-eq-of-lt (omega (arith, found, within-store, from-queue .short)) in
-        let shorter : (lengthOf t (c .a) + 255) % 256 ≡ lengthOf t (c .a) - 1 = omega (arith, some, from-queue .short) in
-        rw row (rw (place, shorter) (sym (accepted-is t c z ∙ ap accepted taken ∙ ap (stored t _ _ _ _ _) elected-same)))
+    retrieve-step at shorter elements criteria =
+        let row : c .a % queueRoom ≡ c .a = mod-eq-of-lt within-store in
+        let place : placeFound % storeSize ≡ placeFound = mod-eq-of-lt (omega (arith, found, within-store, from-queue .short)) in
+        let one-less : (lengthOf t (c .a) + 255) % 256 ≡ lengthOf t (c .a) - 1 = omega (arith, some, from-queue .short) in
+        rw (elements, criteria, shorter, at, row)
+        (rw (place, one-less) (sym (accepted-is t c z ∙ ap accepted taken ∙ ap (stored _ _ _ _ _) elected-same)))

@@ -1,13 +1,4 @@
--- Laws that the proofs of this crate's functions cite.
--- A law for this crate's proofs.
--- That a call told the truth is the step of the rules, and the laws that the code's proof cites.
--- Laws that the proofs of this crate's callers cite.
-mod Changed
-mod Entered
-mod Given
-mod Ticked
+-- What an accepted call knows, the step of each kind of call, and the laws that the proofs of this crate's functions and of its callers cite.
 mod Accepted
 mod Done
-pub mod Cases
-pub mod Told
 pub mod Together

@@ -9,49 +9,36 @@ use refusals::refusal_of;
 use refusals::reported_by;
 use rules::Answer;
 use rules::Call;
+use rules::ENTER;
+use rules::RETRIEVE;
+use rules::SEND;
 use rules::STORE;
+use rules::TICK;
 use tables::Front;
 use tables::FrontDone;
 use validity::front_valid;
 ghost use mathlib.Core.Path.{_≡_};
 ghost use lib.ListN.{length};
 ghost use Rattle.rules.specs.Numbers.{storeSize};
-ghost use Rattle.tables.specs.Fronts.{whole, frontDone};
-ghost use Rattle.calls.specs.Told.{stepTold};
 ghost use Rattle.rules.specs.Step.{step};
+ghost use Rattle.tables.specs.Fronts.{whole, frontDone};
+ghost use Rattle.calls.specs.Steps.{StepAssuming};
 
-// `ok` says whether the table is valid: whoever makes many calls on one table need not look at it each time, since a call leaves a valid
-// table valid. Nothing is asked of `ok`: the law `told-is` says that of a table told what it is, this is the step. The front goes straight
+// `valid` says whether the table is valid: whoever makes many calls on one table need not look at it each time, since a call leaves a valid
+// table valid. Told the truth, this is the step of the rules; told a lie, it is safe, and what comes out is of no use. The front goes straight
 // to the function for the kind of call and straight back: each further pass of it would copy it.
-pub fn call_told(
+pub fn call_assuming(
     f: Front,
-    ok: bool,
+    valid: bool,
     k: Call,
     element: &mut [u32; STORE],
     criterion: &mut [u8; STORE],
 ) -> FrontDone
     requires { ⌜ length (now element) ≡ storeSize ⌝ }
     requires { ⌜ length (now criterion) ≡ storeSize ⌝ }
-    ensures front { λ r. ⌜ r ≡ frontDone (stepTold ok (whole f (now (element .entry)) (now (criterion .entry))) k) ⌝ }
-    ensures elements { λ _. ⌜ now (element .exit) ≡ stepTold ok (whole f (now (element .entry)) (now (criterion .entry))) k .table .element ⌝ }
-    ensures criteria { λ _. ⌜ now (criterion .exit) ≡ stepTold ok (whole f (now (element .entry)) (now (criterion .entry))) k .table .criterion ⌝ }
+    ensures { λ r. ⌜ StepAssuming valid (whole f (now (element .entry)) (now (criterion .entry))) k r (now (element .exit)) (now (criterion .exit)) ⌝ }
 {
-    let timers = f.timers;
-    let status = refusal_of(
-        ok,
-        f.tasks,
-        f.regions,
-        f.queues,
-        f.elected,
-        &f.state,
-        &f.holder,
-        &f.entries,
-        &f.bound,
-        &f.length,
-        criterion,
-        timers,
-        k,
-    );
+    let status = refusal_of(valid, f, criterion, k);
     if status != 0 {
         return FrontDone {
             front: f,
@@ -64,19 +51,19 @@ pub fn call_told(
         };
     }
     let operation = k.operation;
-    if operation < 6 {
+    if operation < ENTER {
         return task_call(f, k);
     }
-    if operation < 8 {
+    if operation < SEND {
         return region_call(f, k);
     }
-    if operation == 8 {
+    if operation == SEND {
         return send_call(f, k, element, criterion);
     }
-    if operation == 9 {
+    if operation == RETRIEVE {
         return retrieve_call(f, k, element, criterion);
     }
-    if operation < 12 {
+    if operation < TICK {
         return timer_call(f, k);
     }
     tick_call(f)
@@ -94,6 +81,6 @@ pub fn call_checked(
     ensures elements { λ _. ⌜ now (element .exit) ≡ step (whole f (now (element .entry)) (now (criterion .entry))) k .table .element ⌝ }
     ensures criteria { λ _. ⌜ now (criterion .exit) ≡ step (whole f (now (element .entry)) (now (criterion .entry))) k .table .criterion ⌝ }
 {
-    let ok = front_valid(f, element, criterion);
-    call_told(f, ok, k, element, criterion)
+    let valid = front_valid(f, element, criterion);
+    call_assuming(f, valid, k, element, criterion)
 }

@@ -1,20 +1,23 @@
-// ENTER and EXIT, once accepted: one region changes, and the elected task is found afresh.
+// ENTER and EXIT, once accepted: one region changes, and the elected task is found afresh. The remainder is for a call that was told a lie.
 use election::elected_by;
 use regions::held_by;
 use regions::region_after;
 use rules::Answer;
 use rules::Call;
+use rules::REGIONS;
 use rules::Region;
 use tables::Front;
 use tables::FrontDone;
-ghost use mathlib.Core.Path.{_≡_};
-ghost use Rattle.tables.specs.Fronts.{frontDone, storeless};
-ghost use Rattle.calls.specs.RegionMade.{regionMade};
+ghost use Prim.Native.Nat.{_<_, _≤_};
+ghost use Rattle.rules.specs.Numbers.{ENTER, SEND};
+ghost use Rattle.calls.specs.Steps.{FrontStep};
 
 pub(crate) fn region_call(mut t: Front, k: Call) -> FrontDone
-    ensures { λ r. ⌜ r ≡ frontDone (regionMade (storeless t) k) ⌝ }
+    requires { ⌜ ENTER ≤ k .operation ⌝ }
+    requires { ⌜ k .operation < SEND ⌝ }
+    ensures { λ r. ⌜ FrontStep t k r ⌝ }
 {
-    let at = (k.a % 16) as usize;
+    let at = (k.a as usize) % REGIONS;
     let mine = std::num::wrapping_add_u8(k.caller, 1);
     let holder = t.holder[at];
     let entries = t.entries[at];

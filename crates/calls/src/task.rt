@@ -1,26 +1,29 @@
-// START, STOP, END, SIGNAL, WAIT and CLEAR, once accepted: one task changes.
+// START, STOP, END, SIGNAL, WAIT and CLEAR, once accepted: one task changes. The remainders are for a call that was told a lie.
 use election::elected_by;
 use refusals::pick;
 use regions::held_by;
 use rules::Answer;
 use rules::Call;
+use rules::TASKS;
 use rules::Task;
+use rules::WAIT;
 use tables::Front;
 use tables::FrontDone;
 use tasks::met_by;
 use tasks::target_of;
 use tasks::task_after;
 use timers::timers_left;
-ghost use mathlib.Core.Path.{_≡_};
-ghost use Rattle.tables.specs.Fronts.{frontDone, storeless};
-ghost use Rattle.calls.specs.TaskMade.{taskMade};
+ghost use Prim.Native.Nat.{_<_};
+ghost use Rattle.rules.specs.Numbers.{ENTER};
+ghost use Rattle.calls.specs.Steps.{FrontStep};
 
 // Nobody is elected afresh where the task keeps its state. A task that STOP or END names isn't stopped yet, so that its timers need a look
 // only where its state changes.
 pub(crate) fn task_call(mut t: Front, k: Call) -> FrontDone
-    ensures { λ r. ⌜ r ≡ frontDone (taskMade (storeless t) k) ⌝ }
+    requires { ⌜ k .operation < ENTER ⌝ }
+    ensures { λ r. ⌜ FrontStep t k r ⌝ }
 {
-    let i = (target_of(k) % 32) as usize;
+    let i = (target_of(k) as usize) % TASKS;
     let r = Task {
         state: t.state[i],
         arrived: t.arrived[i],
@@ -29,7 +32,7 @@ pub(crate) fn task_call(mut t: Front, k: Call) -> FrontDone
     };
     let met = met_by((k.b % 256) as u8, (k.a % 65536) as u16, r.arrived);
     let after = task_after(k, r);
-    let status = pick((k.operation == 4) & !met, 1, 0);
+    let status = pick((k.operation == WAIT) & !met, 1, 0);
     t.state[i] = after.state;
     t.arrived[i] = after.arrived;
     t.list[i] = after.list;

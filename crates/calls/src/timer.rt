@@ -1,8 +1,10 @@
-// ARM and DISARM, which change one timer, and TICK, once accepted: all due timers signal, and then one election.
+// ARM and DISARM, which change one timer, and TICK, once accepted: all due timers signal, and then one election. The remainder is for a
+// call that was told a lie.
 use election::elected_by;
 use regions::held_by;
 use rules::Answer;
 use rules::Call;
+use rules::TIMERS;
 use tables::Front;
 use tables::FrontDone;
 use timers::Rows;
@@ -10,14 +12,16 @@ use timers::later_by;
 use timers::rung_all;
 use timers::rung_rows;
 use timers::timer_after;
-ghost use mathlib.Core.Path.{_≡_};
-ghost use Rattle.tables.specs.Fronts.{frontDone, storeless};
-ghost use Rattle.calls.specs.TimerMade.{timerMade, tickMade};
+ghost use Prim.Native.Nat.{_<_, _≤_};
+ghost use Rattle.rules.specs.Numbers.{ARM, TICK};
+ghost use Rattle.calls.specs.Steps.{FrontStep, TickStep};
 
 pub(crate) fn timer_call(mut t: Front, k: Call) -> FrontDone
-    ensures { λ r. ⌜ r ≡ frontDone (timerMade (storeless t) k) ⌝ }
+    requires { ⌜ ARM ≤ k .operation ⌝ }
+    requires { ⌜ k .operation < TICK ⌝ }
+    ensures { λ r. ⌜ FrontStep t k r ⌝ }
 {
-    let at = (k.a % 16) as usize;
+    let at = (k.a as usize) % TIMERS;
     t.timers[at] = timer_after(k, t.ticks, t.timers[at]);
     FrontDone {
         front: t,
@@ -31,7 +35,7 @@ pub(crate) fn timer_call(mut t: Front, k: Call) -> FrontDone
 }
 
 pub(crate) fn tick_call(mut t: Front) -> FrontDone
-    ensures { λ r. ⌜ r ≡ frontDone (tickMade (storeless t)) ⌝ }
+    ensures { λ r. ⌜ TickStep t r ⌝ }
 {
     let now = later_by(t.ticks, 1);
     let timers = t.timers;

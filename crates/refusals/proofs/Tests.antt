@@ -1,16 +1,17 @@
 -- Tests by operation: the code's flags, and the definitions' lists with an entry for each operation.
 use Prim.Native.Nat.{ℕ, zero, suc, _<_, _≤_}
-use mathlib.Core.Path.{_≡_, refl}
+use mathlib.Core.Path.{_≡_, refl, _∙_}
 use mathlib.Core.Logic.{_≢_}
-use mathlib.Core.Bool.{Bool, true, false, _&&_, _||_, or-false}
-use mathlib.Core.List.{[], _∷_}
+use mathlib.Core.Bool.{Bool, true, false, not, _&&_, _||_, or-false}
+use mathlib.Core.List.{List, [], _∷_}
 use native.Mathlib.Omega.{arith}
 use lib.Dec.{eqb}
-use lib.ListN.{List·getD-eq-default}
+use lib.ListN.{getD, List·getD-eq-default}
 use borrow.Author.Tests.{ne-eqb}
 use Rattle.rules.specs.declared.Call.{Call}
 use Rattle.rules.specs.Words.{byOperation}
 use Rattle.rules.specs.Refusals.{missing}
+use Rattle.refusals.specs.ByKind.{wrongTask}
 
 -- a number past the named ones is none of them
 pub none-of : (n k : ℕ) → k < n → eqb n k ≡ false
@@ -27,6 +28,23 @@ leaves-is (suc (suc (suc (suc zero)))) a = refl
 leaves-is (suc (suc (suc (suc (suc n))))) a =
     let m = suc (suc (suc (suc (suc n)))) in
     rw (none-of m 1 (omega arith), none-of m 2 (omega arith), none-of m 4 (omega arith)) refl
+
+-- 15 of the calls about tasks: by the states of the tasks that a and b name
+wrong : (n : ℕ) (a b : Bool)
+    → ((eqb n 0 && not a) || ((eqb n 1 && a) || (eqb n 3 && b))) ≡ byOperation false n (not a ∷ a ∷ false ∷ b ∷ [])
+wrong zero a b = or-false (not a)
+wrong (suc zero) a b = or-false a
+wrong (suc (suc zero)) a b = refl
+wrong (suc (suc (suc zero))) a b = refl
+wrong (suc (suc (suc (suc n)))) a b =
+    let m = suc (suc (suc (suc n))) in
+    rw (none-of m 0 (omega arith), none-of m 1 (omega arith), none-of m 3 (omega arith)) refl
+
+pub wrong-is : (states : List ℕ) (c : Call) (x y : ℕ) → x ≡ getD states (c .a) 0 → y ≡ getD states (c .b) 0
+    → ((eqb (c .operation) 0 && not (eqb x 0)) || ((eqb (c .operation) 1 && eqb x 0) || (eqb (c .operation) 3 && eqb y 0)))
+    ≡ wrongTask states c
+unfolding wrongTask
+wrong-is states c x y p q = wrong (c .operation) (eqb x 0) (eqb y 0) ∙ rw (p, q) refl
 
 -- 14 does not apply to a number that is no operation
 pub missing-past : (tasks regions queues : ℕ) (c : Call) → 13 ≤ c .operation → false ≡ missing tasks regions queues c

@@ -1,4 +1,4 @@
-// Why a call is refused: the first reason that applies, over a table whose arrays are lent.
+// Why a call is refused: the first reason that applies, over a front and the criteria of its store.
 mod early;
 mod first_reason;
 mod numbers;

@@ -1,5 +1,23 @@
 // What a call's own numbers tell: that one of them stands for nothing, or that the caller would stop running.
+use rules::ARM;
+use rules::CLEAR;
+use rules::CRITERIA;
 use rules::Call;
+use rules::DISARM;
+use rules::END;
+use rules::ENTER;
+use rules::EVENTS;
+use rules::EXIT;
+use rules::LARGEST_PRESENT;
+use rules::LONGEST_DELAY;
+use rules::RETRIEVE;
+use rules::SEND;
+use rules::SIGNAL;
+use rules::START;
+use rules::STOP;
+use rules::TICK;
+use rules::TIMERS;
+use rules::WAIT;
 ghost use mathlib.Core.Path.{_≡_};
 ghost use Rattle.rules.specs.Refusals.{missing, leaves};
 
@@ -10,19 +28,19 @@ pub(crate) fn missing_of(tasks: u8, regions: u8, queues: u8, k: Call) -> bool
     let a = k.a;
     let operation = k.operation;
     match operation {
-        0 => !(a < (tasks as u32)),
-        1 => !(a < (tasks as u32)),
-        2 => false,
-        3 => !(a < 16) | !(k.b < (tasks as u32)),
-        4 => (a == 0) | (65535 < a),
-        5 => (a == 0) | (65535 < a),
-        6 => !(a < (regions as u32)),
-        7 => !(a < (regions as u32)),
-        8 => !(a < (queues as u32)) | !(k.c < 16),
-        9 => !(a < (queues as u32)) | (16 < k.c),
-        10 => !(a < 16) | (!(k.b < 16) | ((k.c == 0) | (2147483647 < k.c))),
-        11 => !(a < 16),
-        12 => false,
+        START => !(a < (tasks as u32)),
+        STOP => !(a < (tasks as u32)),
+        END => false,
+        SIGNAL => !(a < EVENTS) | !(k.b < (tasks as u32)),
+        WAIT => (a == 0) | (65535 < a),
+        CLEAR => (a == 0) | (65535 < a),
+        ENTER => !(a < (regions as u32)),
+        EXIT => !(a < (regions as u32)),
+        SEND => !(a < (queues as u32)) | !(k.c < CRITERIA),
+        RETRIEVE => !(a < (queues as u32)) | (LARGEST_PRESENT < k.c),
+        ARM => !(a < (TIMERS as u32)) | (!(k.b < EVENTS) | ((k.c == 0) | (LONGEST_DELAY < k.c))),
+        DISARM => !(a < (TIMERS as u32)),
+        TICK => false,
         _ => false,
     }
 }
@@ -32,5 +50,5 @@ pub(crate) fn leaves_of(k: Call) -> bool
     ensures { λ r. ⌜ r ≡ leaves k ⌝ }
 {
     let operation = k.operation;
-    ((operation == 1) & (k.a == (k.caller as u32))) | ((operation == 2) | (operation == 4))
+    ((operation == STOP) & (k.a == (k.caller as u32))) | ((operation == END) | (operation == WAIT))
 }

@@ -8,7 +8,7 @@ use Rattle.rules.specs.Step.{step}
 use Rattle.packing.specs.Answers.{answerNumber}
 
 -- call i of a log, five numbers each; caller and operation have one byte
-unfoldable pub callAt : List ℕ → ℕ → Call
+abbrev pub callAt : List ℕ → ℕ → Call
 callAt log i =
     record {
       caller = getD log (5 * i) 0 % 256;

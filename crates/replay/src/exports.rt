@@ -18,9 +18,9 @@ pub extern "C" fn tankwesho_replay(
     answers: &mut [u64],
     each: u8,
 ) -> u64
-    ensures told { λ r. ⌜ r ≡ replayBlock (now (block .entry)) (now (log .entry)) (now (answers .entry)) .count ⌝ }
-    ensures stored { λ _. ⌜ now (block .exit) ≡ replayBlock (now (block .entry)) (now (log .entry)) (now (answers .entry)) .block ⌝ }
-    ensures answered { λ _. ⌜ now (answers .exit) ≡ replayBlock (now (block .entry)) (now (log .entry)) (now (answers .entry)) .answers ⌝ }
+    ensures count { λ r. ⌜ r ≡ replayBlock (now (block .entry)) (now (log .entry)) (now (answers .entry)) .count ⌝ }
+    ensures block { λ _. ⌜ now (block .exit) ≡ replayBlock (now (block .entry)) (now (log .entry)) (now (answers .entry)) .block ⌝ }
+    ensures answers { λ _. ⌜ now (answers .exit) ≡ replayBlock (now (block .entry)) (now (log .entry)) (now (answers .entry)) .answers ⌝ }
 {
     if block.len() != SIZE {
         return 0;

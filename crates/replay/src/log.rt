@@ -1,5 +1,5 @@
 // The calls of a log, one after the other, on a table whose store is lent.
-use calls::call_told;
+use calls::call_assuming;
 use packing::answer_number;
 use rules::Call;
 use rules::STORE;
@@ -51,7 +51,7 @@ fn known_or_seen<'a>(
     requires { ⌜ length (now element) ≡ storeSize ⌝ }
     requires { ⌜ length (now criterion) ≡ storeSize ⌝ }
     requires { ⌜ known ≡ valid (whole f (now element) (now criterion)) ⌝ }
-    ensures { λ r. ⌜ r ≡ known ⌝ }
+    ensures { λ r. ⌜ r ≡ valid (whole f (now (element .entry)) (now (criterion .entry))) ⌝ }
 {
     if each {
         return front_valid(f, element, criterion);
@@ -81,9 +81,9 @@ fn run_lent<'a>(
 {
     let known = front_valid(f, element, criterion);
     for i in 0..n {
-        let ok = known_or_seen(each, known, f, element, criterion);
+        let valid = known_or_seen(each, known, f, element, criterion);
         let k = call_at(log, i);
-        let d = call_told(f, ok, k, element, criterion);
+        let d = call_assuming(f, valid, k, element, criterion);
         answers[i] = answer_number(d.answer);
         f = d.front;
     }

@@ -1,14 +1,13 @@
--- The validity check: its parts, found one after the other over lent arrays, together are validity.
+-- The validity check: what its parts find, one after the other, together is validity.
 use Prim.Native.Nat.{ℕ}
 use mathlib.Core.Path.{_≡_, refl, sym, ap, _∙_}
 use mathlib.Core.Bool.{Bool, true, false, not, _&&_, and-true, true≢false}
-use mathlib.Core.List.{List}
+use mathlib.Core.List.{List, map}
 use lib.Dec.{eqb}
-use lib.ListN.{length}
+use lib.ListN.{length, length-map}
 use borrow.Author.Tests.{eq-eqb, not-true, not-false}
-use Rattle.rules.specs.declared.Timer.{Timer}
 use Rattle.rules.specs.declared.Table.{Table}
-use Rattle.rules.specs.Numbers.{regionRoom}
+use Rattle.rules.specs.Numbers.{taskRoom, regionRoom, queueRoom, storeSize, timerRoom}
 use Rattle.rules.specs.Words.{all}
 use Rattle.rules.specs.Regions.{held}
 use Rattle.rules.specs.Validity.{shaped, countsInRange, criteriaInRange, timersRight, valid}
@@ -19,52 +18,68 @@ use Rattle.rules.specs.Checks.{tasksRight, regionsRight, entriesEverywhere, hol
 use Rattle.rules.proofs.Validity.{parts-of, valid-is}
 use Rattle.regions.specs.Bits.{orAll}
 use Rattle.regions.proofs.Bits.{bits-right, held-right}
-use Rattle.validity.specs.Lent.{lent, Lengths}
 
-pub shaped-lent : (tasks regions queues elected : ℕ) (priority state arrived list operator holder entries bound lengths element criterion : List ℕ)
-    (ticks : ℕ) (timers : List Timer)
-    → Lengths priority state arrived list operator holder entries bound lengths element criterion → length timers ≡ 16
-    → shaped (lent tasks regions queues elected priority state arrived list operator holder entries bound lengths element criterion ticks timers) ≡ true
-unfolding shaped
-shaped-lent tasks regions queues elected priority state arrived list operator holder entries bound lengths element criterion ticks timers l k =
-    shown _ (
-      eq-eqb _ _ (l .priority-long),
-      (
-        eq-eqb _ _ (l .state-long),
-        (
-          eq-eqb _ _ (l .arrived-long),
-          (
-            eq-eqb _ _ (l .list-long),
-            (
-              eq-eqb _ _ (l .operator-long),
-              (eq-eqb _ _ (l .holder-long), (eq-eqb _ _ (l .entries-long), (eq-eqb _ _ (l .bound-long), (eq-eqb _ _ (l .length-long), (eq-eqb _ _ (l .element-long), (eq-eqb _ _ (l .criterion-long), (eq-eqb _ _ k, tt))))))),
-            ),
-          ),
-        ),
-      ),
-    )
+-- the lengths that the types of the arrays give
+pub record Lengths (t : Table) : Type 0 where
+  pub priority-long : length (t .priority) ≡ taskRoom
+  pub state-long : length (t .state) ≡ taskRoom
+  pub arrived-long : length (t .arrived) ≡ taskRoom
+  pub list-long : length (t .list) ≡ taskRoom
+  pub operator-long : length (t .operator) ≡ taskRoom
+  pub holder-long : length (t .holder) ≡ regionRoom
+  pub entries-long : length (t .entries) ≡ regionRoom
+  pub bound-long : length (t .bound) ≡ queueRoom
+  pub length-long : length (t .length) ≡ queueRoom
+  pub element-long : length (t .element) ≡ storeSize
+  pub criterion-long : length (t .criterion) ≡ storeSize
+  pub timers-long : length (t .timers) ≡ timerRoom
 
--- with v the first occupied region's entry, and who the task it elects
-by-holder : (t : Table) → shaped t ≡ true → (v who : ℕ) → v ≡ held (t .holder) → who ≡ electedBy v (t .state) (t .priority)
-    → (a b c n d e f g : Bool)
-    → a ≡ countsInRange (t .tasks) (t .regions) (t .queues)
-    → b ≡ tasksRight (t .tasks) (t .priority) (t .state) (t .arrived) (t .list) (t .operator)
-    → c ≡ regionsRight (t .regions) v (t .holder)
-    → n ≡ entriesEverywhere (t .holder) (t .entries)
-    → d ≡ holderRight (t .tasks) (t .state) v
-    → e ≡ queuesRight (t .queues) (t .bound) (t .length) (t .element) (t .criterion)
-    → f ≡ criteriaInRange (t .criterion)
-    → g ≡ timersRight (t .tasks) (t .state) (t .ticks) (t .timers)
-    → (a && (b && (c && (n && (d && (e && (f && (eqb (t .elected) who && g)))))))) ≡ valid t
-unfolding all
-by-holder t s v who h w a b c n d e f g p q r m u x y z =
-    rw (p, q, r, m, u, x, y, z, w, h, election-by, valid-is t s) (simp and-true)
+-- of an array of structs, the numbers that its structs stand for are known to be as many
+pub length-mapped : (X Y : Type 0) (f : X → Y) (l : List X) (n : ℕ) → length (map f l) ≡ n → length l ≡ n
+length-mapped X Y f l n e = sym (length-map l f) ∙ e
 
--- with v the bits of all entries: the ways out, and the end
-module _ (t : Table) (long : length (t .holder) ≡ regionRoom) (v : ℕ) (h : v ≡ orAll 0 (t .holder)) where
-  -- the bits are the holder's entry in every table that is valid
-  one : valid t ≡ true → v ≡ held (t .holder)
-  one k = h ∙ held-right (t .regions) (t .holder) long (parts-of t k .regions)
+-- ---- what each part of the check finds in the table t
+
+-- v is the bits of all holders' entries
+pub record Regions (t : Table) (v : ℕ) (fit counted : Bool) : Type 0 where
+  pub bits : v ≡ orAll 0 (t .holder)
+  pub fit-is : fit ≡ regionsRight (t .regions) v (t .holder)
+  pub counted-is : counted ≡ entriesEverywhere (t .holder) (t .entries)
+
+-- who is elected where v is the holder's entry
+pub record Elected (t : Table) (v who : ℕ) (ready : Bool) : Type 0 where
+  pub who-is : who ≡ electedBy v (t .state) (t .priority)
+  pub ready-is : ready ≡ holderRight (t .tasks) (t .state) v
+
+pub record Loops (t : Table) (counts stores clock : Bool) : Type 0 where
+  pub counts-is : counts ≡ countsInRange (t .tasks) (t .regions) (t .queues)
+  pub stores-is : stores ≡ queuesRight (t .queues) (t .bound) (t .length) (t .element) (t .criterion)
+  pub clock-is : clock ≡ timersRight (t .tasks) (t .state) (t .ticks) (t .timers)
+
+pub record Columns (t : Table) (columns criteria : Bool) : Type 0 where
+  pub columns-is : columns ≡ tasksRight (t .tasks) (t .priority) (t .state) (t .arrived) (t .list) (t .operator)
+  pub criteria-is : criteria ≡ criteriaInRange (t .criterion)
+
+-- ---- a way out is a part that fails, and at the end the rest is validity
+
+module _ (t : Table) (long : Lengths t) where
+  shape : shaped t ≡ true
+  unfolding shaped all
+  shape =
+      rw (
+        long .priority-long,
+        long .state-long,
+        long .arrived-long,
+        long .list-long,
+        long .operator-long,
+        long .holder-long,
+        long .entries-long,
+        long .bound-long,
+        long .length-long,
+        long .element-long,
+        long .criterion-long,
+        long .timers-long,
+      )
 
   refuted : (b : Bool) → (valid t ≡ true → b ≡ true) → not b ≡ true → false ≡ valid t
   refuted b f n = go (valid t) refl
@@ -73,43 +88,73 @@ module _ (t : Table) (long : length (t .holder) ≡ regionRoom) (v : ℕ) (h : v
       go true e = absurd (true≢false (sym (f e) ∙ not-true b n))
       go false e = sym e
 
-  pub regions-wrong : (c n : Bool) → c ≡ regionsRight (t .regions) v (t .holder) → n ≡ entriesEverywhere (t .holder) (t .entries)
-      → not (c && n) ≡ true → false ≡ valid t
-  regions-wrong c n r m =
-      refuted (c && n)
-      (λ k. both (r ∙ ap (λ x. regionsRight (t .regions) x (t .holder)) (one k) ∙ parts-of t k .regions) (m ∙ parts-of t k .entries))
+  module _ {v : ℕ} {fit counted : Bool} (r : Regions t v fit counted) where
+    -- the bits are the holder's entry in every table that is valid
+    one : valid t ≡ true → v ≡ held (t .holder)
+    one k = r .bits ∙ held-right (t .regions) (t .holder) (long .holder-long) (parts-of t k .regions)
 
-  pub elected-wrong : (who : ℕ) → who ≡ electedBy v (t .state) (t .priority) → (d : Bool) → d ≡ holderRight (t .tasks) (t .state) v → not (d && eqb (t .elected) who) ≡ true → false ≡ valid t
-  elected-wrong who w d u =
-      refuted (d && eqb (t .elected) who)
-      (λ k.
-      both (u ∙ ap (holderRight (t .tasks) (t .state)) (one k) ∙ parts-of t k .holder)
-      (rw (w, one k, election-by) (eq-eqb _ _ (parts-of t k .elected))))
+    pub regions-wrong : not (fit && counted) ≡ true → false ≡ valid t
+    regions-wrong =
+        refuted (fit && counted)
+        (λ k.
+        both (r .fit-is ∙ ap (λ x. regionsRight (t .regions) x (t .holder)) (one k) ∙ parts-of t k .regions)
+        (r .counted-is ∙ parts-of t k .entries))
 
-  pub loops-wrong : (a e g : Bool) → a ≡ countsInRange (t .tasks) (t .regions) (t .queues)
-      → e ≡ queuesRight (t .queues) (t .bound) (t .length) (t .element) (t .criterion)
-      → g ≡ timersRight (t .tasks) (t .state) (t .ticks) (t .timers) → not (a && (e && g)) ≡ true → false ≡ valid t
-  loops-wrong a e g p x z =
-      refuted (a && (e && g)) (λ k. both (p ∙ parts-of t k .counts) (both (x ∙ parts-of t k .queues) (z ∙ parts-of t k .timers)))
+    module _ {who : ℕ} {ready : Bool} (e : Elected t v who ready) where
+      pub elected-wrong : not (ready && eqb (t .elected) who) ≡ true → false ≡ valid t
+      elected-wrong =
+          refuted (ready && eqb (t .elected) who)
+          (λ k.
+          both (e .ready-is ∙ ap (holderRight (t .tasks) (t .state)) (one k) ∙ parts-of t k .holder)
+          (rw (e .who-is, one k, election-by) (eq-eqb _ _ (parts-of t k .elected))))
 
-  pub check-is : shaped t ≡ true → (who : ℕ) → who ≡ electedBy v (t .state) (t .priority)
-      → (a b c n d e f g : Bool)
-      → a ≡ countsInRange (t .tasks) (t .regions) (t .queues)
-      → b ≡ tasksRight (t .tasks) (t .priority) (t .state) (t .arrived) (t .list) (t .operator)
-      → c ≡ regionsRight (t .regions) v (t .holder)
-      → n ≡ entriesEverywhere (t .holder) (t .entries)
-      → d ≡ holderRight (t .tasks) (t .state) v
-      → e ≡ queuesRight (t .queues) (t .bound) (t .length) (t .element) (t .criterion)
-      → f ≡ criteriaInRange (t .criterion)
-      → g ≡ timersRight (t .tasks) (t .state) (t .ticks) (t .timers)
-      → not (c && n) ≡ false → not (d && eqb (t .elected) who) ≡ false → not (a && (e && g)) ≡ false → (b && f) ≡ valid t
-  check-is s who w a b c n d e f g p q r m u x y z i j l =
-      let cn = not-false (c && n) i in
-      let dw = not-false (d && eqb (t .elected) who) j in
-      let aeg = not-false (a && (e && g)) l in
-      let eg = and-right a (e && g) aeg in
-      let right : regionsRight (t .regions) (orAll 0 (t .holder)) (t .holder) ≡ true =
-      ap (λ x. regionsRight (t .regions) x (t .holder)) (sym h) ∙ sym r ∙ and-left c n cn in
-      let whole = by-holder t s v who (h ∙ bits-right (t .regions) (t .holder) long right) w a b c n d e f g p q r m u x y z in
-      simp (and-left a (e && g) aeg, and-left c n cn, and-right c n cn, and-left d _ dw, and-right d _ dw, and-left e g eg, and-right e g eg, and-true)
-      at whole
+      module _ {counts stores clock : Bool} (l : Loops t counts stores clock) where
+        pub loops-wrong : not (counts && (stores && clock)) ≡ true → false ≡ valid t
+        loops-wrong =
+            refuted (counts && (stores && clock))
+            (λ k.
+            both (l .counts-is ∙ parts-of t k .counts) (both (l .stores-is ∙ parts-of t k .queues) (l .clock-is ∙ parts-of t k .timers)))
+
+        module _ {columns criteria : Bool} (c : Columns t columns criteria) where
+          -- where v is the holder's entry
+          by-holder : v ≡ held (t .holder)
+              → (counts && (columns && (fit && (counted && (ready && (stores && (criteria && (eqb (t .elected) who && clock)))))))) ≡ valid t
+          unfolding all
+          by-holder h =
+              rw (
+                l .counts-is,
+                c .columns-is,
+                r .fit-is,
+                r .counted-is,
+                e .ready-is,
+                l .stores-is,
+                c .criteria-is,
+                l .clock-is,
+                e .who-is,
+                h,
+                election-by,
+                valid-is t shape,
+              )
+              (simp and-true)
+
+          pub check-is : not (fit && counted) ≡ false → not (ready && eqb (t .elected) who) ≡ false → not (counts && (stores && clock)) ≡ false
+              → (columns && criteria) ≡ valid t
+          check-is i j k =
+              let regions = not-false (fit && counted) i in
+              let elected = not-false (ready && eqb (t .elected) who) j in
+              let loops = not-false (counts && (stores && clock)) k in
+              let after-counts = and-right counts (stores && clock) loops in
+              let right : regionsRight (t .regions) (orAll 0 (t .holder)) (t .holder) ≡ true =
+              ap (λ x. regionsRight (t .regions) x (t .holder)) (sym (r .bits)) ∙ sym (r .fit-is) ∙ and-left fit counted regions in
+              let whole = by-holder (r .bits ∙ bits-right (t .regions) (t .holder) (long .holder-long) right) in
+              simp (
+                and-left counts (stores && clock) loops,
+                and-left fit counted regions,
+                and-right fit counted regions,
+                and-left ready _ elected,
+                and-right ready _ elected,
+                and-left stores clock after-counts,
+                and-right stores clock after-counts,
+                and-true,
+              )
+              at whole

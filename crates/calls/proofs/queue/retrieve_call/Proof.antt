@@ -1,16 +1,23 @@
--- A length is below 256, so that the sum fits; what is given out and what is closed is what the definition says.
+-- A length is below 256, so that the sum fits; what is given out and what is closed is the step's.
 use borrow.Author.Needs.{needs}
 use native.Mathlib.Omega.{arith}
+use mathlib.Core.Path.{_≡_}
 use Prim.Native.Nat.{ℕ, _%_, _<_}
 use lib.ListN.{getD}
 use mir.Val.{Fits}
 use mir.Syntax.{w8}
-use Rattle.calls.proofs.Given.{retrieved}
+use Rattle.rules.specs.Numbers.{queueRoom, RETRIEVE}
+use Rattle.tables.specs.Fronts.{whole}
+use Rattle.calls.proofs.Together.{in-parts}
+use Rattle.calls.proofs.Done.{retrieve-step}
 use Rattle.calls.proofs.queue.retrieve_call.Statement.{statement}
 use Rattle.calls.proofs.queue.retrieve_call.Tie as tie
 
 length-small : (c : tie.Start) (i : ℕ) → getD (c .args .t1 .length) i 0 < 256
 length-small c i = let f : Fits w8 (getD (c .args .t1 .length) i 0) = search needs in f .fits
+
+retrieves : (c : tie.Start) → c .args .k .operation ≡ RETRIEVE
+retrieves c = search needs
 
 cast-at : tie.Need-cast-at
 cast-at c = search needs
@@ -25,7 +32,7 @@ cast-end : tie.Need-cast-end
 cast-end c = search needs
 
 add-end : tie.Need-add-end
-add-end c = omega (arith, length-small (c .before .before) ((c .before .before) .args .k .a % 8))
+add-end c = let s = c .before .before in omega (arith, length-small s (s .args .k .a % queueRoom))
 
 place-of-requires : tie.Need-place-of-requires
 place-of-requires c κs = search needs
@@ -53,9 +60,14 @@ element-write-t c = search needs
 
 returns : tie.Need-returns
 returns c =
-    let a = c .before .before .before .before .before .before .before .before .before .before .before .args in
-    retrieved (a .t1) (a .k) (a .element .now) (a .criterion .now) (c .before .before .before .before .before .before .before .place-of .ensures)
-    (c .wrapping-add-u8 .ensures) (c .before .before .before .close-elements .ensures) (c .before .close-criteria .ensures)
+    let closed = c .before .before .before in
+    let placed = closed .before .before .before .before in
+    let s = placed .before .before .before .before in
+    let a = s .args in
+    λ z.
+    in-parts
+    (retrieve-step (whole (a .t1) (a .element .now) (a .criterion .now)) (a .k) z (retrieves s) (placed .place-of .ensures) (c .wrapping-add-u8 .ensures)
+    (closed .close-elements .ensures) (c .before .close-criteria .ensures))
 
 pub retrieve-call-spec : {M : Type 1} → statement M
 retrieve-call-spec =

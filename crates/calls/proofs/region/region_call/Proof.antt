@@ -1,10 +1,15 @@
 -- One region is written, and the election is that of the table after it.
 use borrow.Author.Needs.{needs}
 use mathlib.Core.Path.{ap}
-use Rattle.tables.specs.Fronts.{frontDone, storeless}
-use Rattle.calls.proofs.Entered.{region-made}
+use Prim.Native.Nat.{_<_, _≤_}
+use Rattle.rules.specs.Numbers.{ENTER, SEND}
+use Rattle.tables.specs.Fronts.{whole, frontDone}
+use Rattle.calls.proofs.Done.{region-step}
 use Rattle.calls.proofs.region.region_call.Statement.{statement}
 use Rattle.calls.proofs.region.region_call.Tie as tie
+
+kind : (c : tie.Start) → (ENTER ≤ c .args .k .operation) × (c .args .k .operation < SEND)
+kind c = search needs
 
 cast-at : tie.Need-cast-at
 cast-at c = search needs
@@ -34,7 +39,14 @@ elected-by-requires : tie.Need-elected-by-requires
 elected-by-requires c κs = search needs
 
 returns : tie.Need-returns
-returns c = ap frontDone (region-made (storeless ((c .before .before .before .before .before .before .before .before .before .before .before .before) .args .t1)) ((c .before .before .before .before .before .before .before .before .before .before .before .before) .args .k) _ _ _ (c .before .before .before .before .before .before .before .before .before .before .wrapping-add-u8 .ensures) _ _ _ (c .before .before .before .before .before .before .before .region-after .ensures) (c .before .before .before .before .held-by .ensures) (c .elected-by .ensures))
+returns c =
+    let after = c .before .before .before .before .before .before .before in
+    let mine = after .before .before .before in
+    let s = mine .before .before in
+    λ es cs z.
+    ap frontDone
+    (region-step (whole (s .args .t1) es cs) (s .args .k) z (kind s .0) (kind s .1) (mine .wrapping-add-u8 .ensures) (after .region-after .ensures)
+    (c .before .before .before .before .held-by .ensures) (c .elected-by .ensures))
 
 pub region-call-spec : {M : Type 1} → statement M
 region-call-spec =

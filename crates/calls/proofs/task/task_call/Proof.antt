@@ -1,14 +1,30 @@
--- One task is written; where its state changes, the election and the timers are those of the definition.
+-- One task is written; where its state changes, the election and the timers are those of the step.
 use borrow.Author.Needs.{needs}
 use mathlib.Core.Path.{_≡_, ap}
+use Prim.Native.Nat.{_<_}
 use lib.ListN.{length, length-set}
-use Rattle.tables.specs.Fronts.{frontDone, storeless}
-use Rattle.calls.proofs.Changed.{state-kept, state-changed}
+use Rattle.rules.specs.Numbers.{taskRoom, regionRoom, ENTER}
+use Rattle.tables.specs.Fronts.{whole, frontDone}
+use Rattle.calls.proofs.Done.{task-kept, task-changed}
 use Rattle.calls.proofs.task.task_call.Statement.{statement}
 use Rattle.calls.proofs.task.task_call.Tie as tie
 
-long : (c : tie.Start) → (length (c .args .t1 .priority) ≡ 32) × ((length (c .args .t1 .state) ≡ 32) × (length (c .args .t1 .holder) ≡ 16))
+low : (c : tie.Start) → c .args .k .operation < ENTER
+low c = search needs
+
+long : (c : tie.Start) → (length (c .args .t1 .priority) ≡ taskRoom) × ((length (c .args .t1 .state) ≡ taskRoom) × (length (c .args .t1 .holder) ≡ regionRoom))
 long c = (search needs, (search needs, search needs))
+
+-- ---- the way back, from call to call
+
+abbrev to-after : tie.After-pick → tie.After-task-after
+to-after c = c .before .before
+
+abbrev to-target : tie.After-task-after → tie.After-target-of
+to-target c = c .before .before .before .before .before .before .before .before
+
+abbrev to-start : tie.After-pick → tie.Start
+to-start c = to-target (to-after c) .before
 
 target-of-requires : tie.Need-target-of-requires
 target-of-requires c κs = search needs
@@ -19,11 +35,11 @@ cast-i c = search needs
 element-copy-out-timers-left : tie.Need-element-copy-out-timers-left
 element-copy-out-timers-left c = search needs
 
-mul-t17 : tie.Need-mul-t17
-mul-t17 c = search needs
+mul-t13 : tie.Need-mul-t13
+mul-t13 c = search needs
 
-element-copy-out-t20 : tie.Need-element-copy-out-t20
-element-copy-out-t20 c = search needs
+element-copy-out-t19 : tie.Need-element-copy-out-t19
+element-copy-out-t19 c = search needs
 
 mul-met-by : tie.Need-mul-met-by
 mul-met-by c = search needs
@@ -68,13 +84,21 @@ element-write-t-4 : tie.Need-element-write-t-4
 element-write-t-4 c = search needs
 
 returns : tie.Need-returns
-returns c = rw (← c .before .before .before .before .before .before .before .before .before .before .before .before .before .target-of .ensures) (ap frontDone (state-kept (storeless ((c .before .before .before .before .before .before .before .before .before .before .before .before .before .before) .args .t1)) ((c .before .before .before .before .before .before .before .before .before .before .before .before .before .before) .args .k) _ _ _ _ (c .before .before .before .before .before .task-after .ensures) (c .before .before .before .before .before .before .met-by .ensures) (c .before .before .before .pick .ensures) (c .if1 .taken)))
+returns c =
+    let p = c .before .before .before in
+    let s = to-start p in
+    λ es cs z.
+    ap frontDone
+    (task-kept (whole (s .args .t1) es cs) (s .args .k) z (low s) (to-target (to-after p) .target-of .ensures) (to-after p .task-after .ensures)
+    (to-after p .before .met-by .ensures) (p .pick .ensures) (c .if1 .taken))
 
 held-by-requires : tie.Need-held-by-requires
-held-by-requires c κs = long (c .before .before .before .before .before .before .before .before .before .before .before .before .before .before .before .before) .1 .1
+held-by-requires c κs = long (to-start (c .before .before .before .before .before)) .1 .1
 
 elected-by-requires : tie.Need-elected-by-requires
-elected-by-requires c κs = (rw length-set (long (c .before .before .before .before .before .before .before .before .before .before .before .before .before .before .before .before .before .before .before .before) .1 .0), long (c .before .before .before .before .before .before .before .before .before .before .before .before .before .before .before .before .before .before .before .before) .0)
+elected-by-requires c κs =
+    let l = long (to-start (c .before .before .before .before .before .before .before .before .before)) in
+    (rw length-set (l .1 .0), l .0)
 
 cast-timers-left : tie.Need-cast-timers-left
 cast-timers-left c = search needs
@@ -83,7 +107,14 @@ timers-left-requires : tie.Need-timers-left-requires
 timers-left-requires c κs = search needs
 
 returns-2 : tie.Need-returns-2
-returns-2 c = rw (← c .before .before .before .before .before .before .before .before .before .before .before .before .before .before .before .before .before .before .before .before .before .before .target-of .ensures) (ap frontDone (state-changed (storeless ((c .before .before .before .before .before .before .before .before .before .before .before .before .before .before .before .before .before .before .before .before .before .before .before) .args .t1)) ((c .before .before .before .before .before .before .before .before .before .before .before .before .before .before .before .before .before .before .before .before .before .before .before) .args .k) _ _ _ _ (c .before .before .before .before .before .before .before .before .before .before .before .before .before .before .task-after .ensures) (c .before .before .before .before .before .before .before .before .before .before .before .before .before .before .before .met-by .ensures) (c .before .before .before .before .before .before .before .before .before .before .before .before .pick .ensures) (c .before .before .before .before .before .before .before .before .before .if1 .left) _ _ _ (c .timers-left .ensures) (c .before .before .before .before .before .before .held-by .ensures) (c .before .before .elected-by .ensures)))
+returns-2 c =
+    let held = c .before .before .before .before .before .before in
+    let p = held .before .before .before .before .before .before in
+    let s = to-start p in
+    λ es cs z.
+    ap frontDone
+    (task-changed (whole (s .args .t1) es cs) (s .args .k) z (low s) (to-target (to-after p) .target-of .ensures) (to-after p .task-after .ensures)
+    (to-after p .before .met-by .ensures) (p .pick .ensures) _ _ _ (c .timers-left .ensures) (held .held-by .ensures) (c .before .before .elected-by .ensures))
 
 pub task-call-spec : {M : Type 1} → statement M
 task-call-spec =
@@ -92,8 +123,8 @@ task-call-spec =
     target-of-requires
     cast-i
     element-copy-out-timers-left
-    mul-t17
-    element-copy-out-t20
+    mul-t13
+    element-copy-out-t19
     mul-met-by
     element-copy-out-met-by
     element-copy-out-met-by-2

@@ -19,7 +19,10 @@ pick-requires-5 : tie.Need-pick-requires-5
 pick-requires-5 c κs = search needs
 
 returns : tie.Need-returns
-returns c = rw (c .pick5 .ensures, c .before .pick4 .ensures, c .before .before .before .pick3 .ensures, c .before .before .before .before .pick2 .ensures, c .before .before .before .before .before .pick .ensures)
+returns c =
+    let after-13 = c .before .before .before in
+    let after-12 = after-13 .before in
+    rw (c .pick5 .ensures, c .before .pick4 .ensures, after-13 .pick3 .ensures, after-12 .pick2 .ensures, after-12 .before .pick .ensures)
 
 pub early-of-spec : {M : Type 1} → statement M
 early-of-spec =

@@ -1,8 +1,15 @@
 -- One arm for each operation computes the entry of the definition's list; past the list nothing is missing.
+use borrow.Author.Needs.{needs}
 use Rattle.rules.specs.Refusals.{missing}
 use Rattle.refusals.proofs.Tests.{missing-past, none-below}
 use Rattle.refusals.proofs.numbers.missing_of.Statement.{statement}
 use Rattle.refusals.proofs.numbers.missing_of.Tie as tie
+
+cast-result : tie.Need-cast-result
+cast-result c = search needs
+
+cast-result-2 : tie.Need-cast-result-2
+cast-result-2 c = search needs
 
 returns : tie.Need-returns
 unfolding missing
@@ -63,6 +70,8 @@ pub missing-of-spec : {M : Type 1} → statement M
 missing-of-spec =
     tie.close
     (tie.spec
+    cast-result
+    cast-result-2
     returns
     returns-2
     returns-3

@@ -1,6 +1,5 @@
 -- One reason: the timer is looked up, and TICK and what comes behind it do not ask.
 use borrow.Author.Needs.{needs}
-use Rattle.refusals.specs.Late.{timerFlags}
 use Rattle.refusals.proofs.order.timer_reason_of.Statement.{statement}
 use Rattle.refusals.proofs.order.timer_reason_of.Tie as tie
 
@@ -11,7 +10,6 @@ pick-requires : tie.Need-pick-requires
 pick-requires c κs = search needs
 
 returns : tie.Need-returns
-unfolding timerFlags
 returns c = rw (c .pick .ensures, c .before .before .others-at .ensures)
 
 pub timer-reason-of-spec : {M : Type 1} → statement M

@@ -1,8 +1,11 @@
 -- Only RETRIEVE of a queue that exists is looked up; the definition has the same two cases.
 use borrow.Author.Needs.{needs}
-use Rattle.refusals.specs.QueueFlags.{lacking}
+use Rattle.refusals.specs.ByKind.{lacking}
 use Rattle.refusals.proofs.queue_reasons.lacking_of.Statement.{statement}
 use Rattle.refusals.proofs.queue_reasons.lacking_of.Tie as tie
+
+cast-if1 : tie.Need-cast-if1
+cast-if1 c = search needs
 
 cast-from : tie.Need-cast-from
 cast-from c = search needs
@@ -37,6 +40,7 @@ pub lacking-of-spec : {M : Type 1} → statement M
 lacking-of-spec =
     tie.close
     (tie.spec
+    cast-if1
     cast-from
     mul-from
     cast-byte-at

@@ -1,6 +1,5 @@
 -- The picks stand from the last reason to the first, so the chain is the list's first that applies.
 use borrow.Author.Needs.{needs}
-use Rattle.refusals.specs.QueueFlags.{queueFlags}
 use Rattle.refusals.proofs.queue_reasons.queue_reason_of.Statement.{statement}
 use Rattle.refusals.proofs.queue_reasons.queue_reason_of.Tie as tie
 
@@ -17,8 +16,9 @@ pick-requires-2 : tie.Need-pick-requires-2
 pick-requires-2 c κs = search needs
 
 returns : tie.Need-returns
-unfolding queueFlags
-returns c = rw (c .pick2 .ensures, c .before .before .pick .ensures, c .before .full-of .ensures, c .before .before .before .lacking-of .ensures)
+returns c =
+    let after-18 = c .before .before .before .before .before in
+    rw (c .pick2 .ensures, after-18 .pick .ensures, c .before .full-of .ensures, after-18 .before .lacking-of .ensures)
 
 pub queue-reason-of-spec : {M : Type 1} → statement M
 queue-reason-of-spec =

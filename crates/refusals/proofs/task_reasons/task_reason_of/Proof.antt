@@ -1,6 +1,5 @@
 -- The picks stand from the last reason to the first, so the chain is the list's first that applies.
 use borrow.Author.Needs.{needs}
-use Rattle.refusals.specs.TaskFlags.{taskFlags}
 use Rattle.refusals.proofs.task_reasons.task_reason_of.Statement.{statement}
 use Rattle.refusals.proofs.task_reasons.task_reason_of.Tie as tie
 
@@ -26,8 +25,19 @@ pick-requires-4 : tie.Need-pick-requires-4
 pick-requires-4 c κs = search needs
 
 returns : tie.Need-returns
-unfolding taskFlags
-returns c = rw (c .pick4 .ensures, c .before .before .before .pick3 .ensures, c .before .before .before .before .before .pick2 .ensures, c .before .before .before .before .before .before .before .pick .ensures, c .before .before .before .before .wrong-task-of .ensures, c .before .before .before .before .before .before .inside-of .ensures, c .before .before .before .before .before .before .before .before .deepest-of .ensures)
+returns c =
+    let after-15 = c .before .before .before in
+    let after-16 = after-15 .before .before .before .before in
+    let after-22 = after-16 .before .before .before .before in
+    rw (
+      c .pick4 .ensures,
+      after-15 .pick3 .ensures,
+      after-16 .pick2 .ensures,
+      after-22 .pick .ensures,
+      after-15 .before .wrong-task-of .ensures,
+      after-16 .before .inside-of .ensures,
+      after-22 .before .deepest-of .ensures,
+    )
 
 pub task-reason-of-spec : {M : Type 1} → statement M
 task-reason-of-spec =

@@ -1,6 +1,6 @@
 -- By the operation: at most one flag counts, and it is the definition's entry.
 use borrow.Author.Needs.{needs}
-use Rattle.refusals.proofs.Wrong.{wrong-is}
+use Rattle.refusals.proofs.Tests.{wrong-is}
 use Rattle.refusals.proofs.task_reasons.wrong_task_of.Statement.{statement}
 use Rattle.refusals.proofs.task_reasons.wrong_task_of.Tie as tie
 

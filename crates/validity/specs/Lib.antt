@@ -1,2 +1,0 @@
--- A table whose arrays are lent.
-pub mod Lent
