@@ -3,7 +3,7 @@ use borrow.Author.Needs.{needs}
 use mathlib.Core.Path.{ap, _∙_}
 use Rattle.frames.specs.Answers.{answerLine, placed}
 use Rattle.bench_lines.specs.Steps.{malformed}
-use Rattle.session.proofs.Ends.{ending-none, ending-no-room, ending-some}
+use Rattle.session.proofs.Ending.{ending-none, ending-no-room, ending-some}
 use Rattle.session.proofs.end.finish.Statement.{statement}
 use Rattle.session.proofs.end.finish.Tie as tie
 

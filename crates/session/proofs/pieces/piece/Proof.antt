@@ -1,6 +1,6 @@
 -- The lines end within the piece, and what they leave is moved to the front.
 use borrow.Author.Needs.{needs}
-use Rattle.session.proofs.Buffers.{next-within, answers-there, front-fits, left-moved, held-told}
+use Rattle.session.proofs.Buffers.{next-within, answers-there, front-fits, left-moved, piece-result}
 use Rattle.session.proofs.pieces.piece.Statement.{statement}
 use Rattle.session.proofs.pieces.piece.Tie as tie
 
@@ -35,7 +35,7 @@ same-length-2 : tie.Need-same-length-2
 same-length-2 c = search needs
 
 returns : tie.Need-returns
-returns c = (held-told _ _ _ _ _ (c .before .before .before .before .before .before .before .before .before .before .before .before .lesser .ensures) _ (c .before .before .before .before .before .before .before .before .feed .ensures .0) _ (c .before .before .before .before .before .lesser2 .ensures), (left-moved _ _ _ _ _ (c .before .before .before .before .before .before .before .before .before .before .before .before .lesser .ensures) _ (c .before .before .before .before .before .before .before .before .feed .ensures .0) _ (c .before .before .before .before .before .lesser2 .ensures) _ (c .before .before .before .to-front .ensures), answers-there _ _ _ _ _ (c .before .before .before .before .before .before .before .before .before .before .before .before .lesser .ensures) _ (c .before .before .before .before .before .before .before .before .feed .ensures .0) _ _ (c .before .before .before .before .before .before .before .before .feed .ensures .1)))
+returns c = (piece-result _ _ _ _ _ (c .before .before .before .before .before .before .before .before .before .before .before .before .lesser .ensures) _ (c .before .before .before .before .before .before .before .before .feed .ensures .0) _ (c .before .before .before .before .before .lesser2 .ensures), (left-moved _ _ _ _ _ (c .before .before .before .before .before .before .before .before .before .before .before .before .lesser .ensures) _ (c .before .before .before .before .before .before .before .before .feed .ensures .0) _ (c .before .before .before .before .before .lesser2 .ensures) _ (c .before .before .before .to-front .ensures), answers-there _ _ _ _ _ (c .before .before .before .before .before .before .before .before .before .before .before .before .lesser .ensures) _ (c .before .before .before .before .before .before .before .before .feed .ensures .0) _ _ (c .before .before .before .before .before .before .before .before .feed .ensures .1)))
 
 pub piece-spec : {M : Type 1} → statement M
 piece-spec =
