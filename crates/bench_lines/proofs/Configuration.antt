@@ -52,7 +52,8 @@ numbers-small (x ∷ y ∷ xs) =
 
 -- the array that they are read into
 module _ (line : List ℕ) (i : ℕ) (s : List ℕ) where
-  pub numbers-again : (n : ℕ) → s ≡ filled numberRoom i (numbers line) → n ≡ digit (getD line (2 * i) 0) * 16 + digit (getD line (2 * i + 1) 0) → i < length line / 2 → length line ≤ longest
+  pub numbers-again : (n : ℕ) → s ≡ filled numberRoom i (numbers line) → n ≡ digit (getD line (2 * i) 0) * 16 + digit (getD line (2 * i + 1) 0)
+      → i < length line / 2 → length line ≤ longest
       → set s i n ≡ filled numberRoom (i + 1) (numbers line)
   numbers-again n e d h k =
       let long = numbers-length line in

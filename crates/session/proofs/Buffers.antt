@@ -33,7 +33,8 @@ module _ (from n i : ℕ) (l s : List ℕ) (e : s ≡ take i (drop from l) ++ dr
       let read : getD s (from + i) 0 ≡ getD (drop from l) i 0 =
       rw (e, place, getD-append-add (take i (drop from l)) (drop i l) from 0, getD-drop i l from 0, same) (sym (getD-drop from l i 0)) in
       let inside : i < length (drop from l) = rw length-drop (omega arith) in
-      rw (read, e, drop-cons l i 0 (omega arith), set-at (take i (drop from l)) (getD l i 0) (drop (suc i) l) (getD (drop from l) i 0) i long, add-one, take-suc (drop from l) i 0 inside)
+      let stored = set-at (take i (drop from l)) (getD l i 0) (drop (suc i) l) (getD (drop from l) i 0) i long in
+      rw (read, e, drop-cons l i 0 (omega arith), stored, add-one, take-suc (drop from l) i 0 inside)
       (sym (append-assoc (take i (drop from l)) (getD (drop from l) i 0 ∷ []) (drop (suc i) l)))
 
   pub front-end : i ≤ n → n ≤ i → s ≡ over (take n (drop from l)) l

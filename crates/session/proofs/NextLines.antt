@@ -118,7 +118,8 @@ module _ (s : Standing) (input : List ℕ) (at : ℕ) (does : Line → Done)
   took Nothing f h = absurd (h refl)
 
 -- the first line of a session that stands before it
-pub first-took : (s : Standing) → s .begun ≡ false → (input : List ℕ) (r : FirstLine) → r ≡ firstLineAt input → (r .next ≡ 0 → ⊥) → Took s input 0 (r .done) (r .next)
+pub first-took : (s : Standing) → s .begun ≡ false → (input : List ℕ) (r : FirstLine) → r ≡ firstLineAt input → (r .next ≡ 0 → ⊥)
+    → Took s input 0 (r .done) (r .next)
 unfolding firstLineAt lineDone tooLong
 first-took s b input r e =
     rw e (took s input 0 (firstDoneBy input) (λ from to next. rw b refl) (λ next. rw b refl) (lineAt input 0) (found input 0))

@@ -10,7 +10,8 @@ use Rattle.cases.proofs.feed.run.Statement.{statement}
 use Rattle.cases.proofs.feed.run.Tie as tie
 
 abbrev Inv-loop : tie.InvT-loop
-Inv-loop input size buffer₀ out₀ s₀ kept₀ at₀ buffer out s kept at = (at ≤ length input) × (kept ≤ mostKept) × (length buffer ≡ mostKept + 4096) × (length out ≡ answerLength * (mostKept + 4096))
+Inv-loop input size buffer₀ out₀ s₀ kept₀ at₀ buffer out s kept at =
+    (at ≤ length input) × (kept ≤ mostKept) × (length buffer ≡ mostKept + 4096) × (length out ≡ answerLength * (mostKept + 4096))
 
 abbrev μ-loop : tie.MeasureT-loop
 μ-loop input size buffer₀ out₀ s₀ kept₀ at₀ buffer out s kept at = length input - at
