@@ -7,20 +7,21 @@ use native.Mathlib.Omega.{arith}
 use lib.Dec.{eqb, ltb, leb}
 use lib.ListN.{length, take, drop, getD, set, replicate, length-drop}
 use lib.Seq.{take-length, take-all, length-take-le, take-append-le, drop-append-le}
-use borrow.Author.Tests.{lt-ltb, le-leb, eq-eqb, ne-eqb, leb-true, leb-false}
+use borrow.Author.Tests.{lt-ltb, le-leb, eq-eqb, ne-eqb, leb-true, leb-false, not-true, not-false}
+use Rattle.rules.specs.Numbers.{taskRoom, queueRoom}
 use Rattle.rules.specs.Words.{all, every, padded}
 use Rattle.rules.specs.Validity.{countsInRange, boundInRange}
 use Rattle.rules.specs.Answers.{done, refused}
 use Rattle.rules.specs.Fresh.{configurationInRange, freshTable, zeroTable, fresh}
 use Rattle.rules.proofs.Bools.{given}
 use Rattle.rules.proofs.Lists.{every-cons, every-nil, every-take, every-drop, padded-at, padded-past, length-padded}
-use Rattle.digits.specs.Digits.{value, field}
-use Rattle.digits.proofs.Values.{value-fits}
+use Rattle.digits.specs.Digits.{digit, value}
+use Rattle.digits.proofs.Hexadecimal.{two-digits, two-digits-small}
 use Rattle.tables.proofs.Fills.{filled, filled-again, filled-end}
-use Rattle.lines.specs.Ends.{part}
+use Rattle.lines.specs.Ends.{longest, part}
 use Rattle.bench_lines.specs.Start.{firstRefused}
-use Rattle.bench_lines.specs.First.{plain, numbers, tasksIn, regionsIn, queuesIn, prioritiesIn, boundsIn, firstReasons, firstLine}
-use Rattle.bench_lines.proofs.Plain.{not-true, not-false, plain-short}
+use Rattle.bench_lines.specs.First.{numberRoom, plain, numbers, tasksIn, regionsIn, queuesIn, prioritiesIn, boundsIn, firstReasons, firstDone}
+use Rattle.bench_lines.proofs.Plain.{plain-short}
 
 -- ---- the numbers of a line
 
@@ -30,12 +31,15 @@ numbers-length [] = (omega arith, omega arith)
 numbers-length (x ∷ []) = (omega arith, omega arith)
 numbers-length (x ∷ y ∷ xs) = let ih = numbers-length xs in (omega arith, omega arith)
 
-pub numbers-at : (i : ℕ) (xs : List ℕ) → i < length (numbers xs) → getD (numbers xs) i 0 ≡ field 2 (2 * i) xs
-unfolding numbers field
+pub numbers-at : (i : ℕ) (xs : List ℕ) → i < length (numbers xs) → getD (numbers xs) i 0 ≡ digit (getD xs (2 * i) 0) * 16 + digit (getD xs (2 * i + 1) 0)
+unfolding numbers
 numbers-at i [] h = absurd (omega arith)
 numbers-at i (x ∷ []) h = absurd (omega arith)
-numbers-at zero (x ∷ y ∷ xs) h = refl
-numbers-at (suc i) (x ∷ y ∷ xs) h = let two : 2 * suc i ≡ suc (suc (2 * i)) = omega arith in rw two (numbers-at i xs (omega arith))
+numbers-at zero (x ∷ y ∷ xs) h = two-digits x y
+numbers-at (suc i) (x ∷ y ∷ xs) h =
+    let two : 2 * suc i ≡ suc (suc (2 * i)) = omega arith in
+    let three : suc (suc (2 * i)) + 1 ≡ suc (suc (2 * i + 1)) = omega arith in
+    rw (two, three) (numbers-at i xs (omega arith))
 
 pub numbers-small : (xs : List ℕ) → every (λ n. ltb n 256) (numbers xs) ≡ true
 unfolding numbers
@@ -43,22 +47,23 @@ numbers-small [] = every-nil (λ n. ltb n 256)
 numbers-small (x ∷ []) = every-nil (λ n. ltb n 256)
 numbers-small (x ∷ y ∷ xs) =
     every-cons (λ n. ltb n 256) (value (x ∷ y ∷ [])) (numbers xs)
-    (lt-ltb (value (x ∷ y ∷ [])) 256 (value-fits 2 (x ∷ y ∷ []) (omega arith)))
+    (lt-ltb (value (x ∷ y ∷ [])) 256 (two-digits-small x y))
     (numbers-small xs)
 
 -- the array that they are read into
 module _ (line : List ℕ) (i : ℕ) (s : List ℕ) where
-  pub numbers-again : (n : ℕ) → s ≡ filled 64 i (numbers line) → n ≡ field 2 (2 * i) line → i < length line / 2 → length line ≤ 128
-      → set s i n ≡ filled 64 (i + 1) (numbers line)
+  pub numbers-again : (n : ℕ) → s ≡ filled numberRoom i (numbers line) → n ≡ digit (getD line (2 * i) 0) * 16 + digit (getD line (2 * i + 1) 0)
+      → i < length line / 2 → length line ≤ longest
+      → set s i n ≡ filled numberRoom (i + 1) (numbers line)
   numbers-again n e d h k =
       let long = numbers-length line in
       let here : i < length (numbers line) = omega arith in
-      rw (d, ← numbers-at i line here) (filled-again 64 i (numbers line) s e (omega arith) here)
+      rw (d, ← numbers-at i line here) (filled-again numberRoom i (numbers line) s e (omega arith) here)
 
-  pub numbers-end : s ≡ filled 64 i (numbers line) → i ≤ length line / 2 → length line / 2 ≤ i → s ≡ padded 64 0 (numbers line)
+  pub numbers-end : s ≡ filled numberRoom i (numbers line) → i ≤ length line / 2 → length line / 2 ≤ i → s ≡ padded numberRoom 0 (numbers line)
   numbers-end e h k =
       let long = numbers-length line in
-      rw take-length at (filled-end 64 i (numbers line) s (length (numbers line)) e (omega arith) (omega arith) (omega arith))
+      rw take-length at (filled-end numberRoom i (numbers line) s (length (numbers line)) e (omega arith) (omega arith) (omega arith))
 
 -- ---- the configuration that they make: a is the array
 
@@ -74,11 +79,11 @@ padded-get room i xs = go (leb (length xs) i) refl
         past (y ∷ ys) (suc j) h = past ys j (omega arith)
     go false e = padded-at room 0 xs i (leb-false (length xs) i e)
 
-pub array-long : (line a : List ℕ) → a ≡ padded 64 0 (numbers line) → plain line ≡ true → length a ≡ 64
+pub array-long : (line a : List ℕ) → a ≡ padded numberRoom 0 (numbers line) → plain line ≡ true → length a ≡ numberRoom
 array-long line a e p =
     let few = numbers-length line in
     let short = plain-short line p in
-    rw e (length-padded 64 0 (numbers line) (omega arith))
+    rw e (length-padded numberRoom 0 (numbers line) (omega arith))
 
 -- a part of the numbers is one of the array
 part-padded : (room from to : ℕ) (xs : List ℕ) → from ≤ to → to ≤ length xs → part from to (padded room 0 xs) ≡ part from to xs
@@ -99,28 +104,30 @@ fresh-bounds tasks regions queues priorities bounds c p b s =
     let bs : take queues bounds ≡ bounds = take-all queues bounds (omega arith) in
     simp (c, le-leb tasks (length priorities) (omega arith), le-leb queues (length bounds) (omega arith), ps, bs, s, and-true)
 
-module _ (line a : List ℕ) (e : a ≡ padded 64 0 (numbers line)) (p : plain line ≡ true)
+module _ (line a : List ℕ) (e : a ≡ padded numberRoom 0 (numbers line)) (p : plain line ≡ true)
     (long : (ltb (length line) 6 || eqb (length line % 2) 1) ≡ false) where
   at : (i : ℕ) → getD a i 0 ≡ getD (numbers line) i 0
-  at i = rw e (padded-get 64 i (numbers line))
+  at i = rw e (padded-get numberRoom i (numbers line))
 
   module _ (ok : Bool) (k : ok ≡ countsInRange (getD a 0 0) (getD a 1 0) (getD a 2 0)) where
-    pub counts-refuse : not ok ≡ true → firstRefused 20 ≡ firstLine line
-    unfolding firstLine firstReasons
+    pub counts-refuse : not ok ≡ true → firstRefused 20 ≡ firstDone line
+    unfolding firstDone firstReasons
     counts-refuse h = simp (p, long, rw (at 0, at 1, at 2) at (sym k ∙ not-true ok h))
 
     module _ (h : not ok ≡ false) where
       right : countsInRange (getD (numbers line) 0 0) (getD (numbers line) 1 0) (getD (numbers line) 2 0) ≡ true
       right = rw (at 0, at 1, at 2) at (sym k ∙ not-false ok h)
 
-      pub counts-small : (getD a 0 0 ≤ 32) × (getD a 2 0 ≤ 8)
+      pub counts-small : (getD a 0 0 ≤ taskRoom) × (getD a 2 0 ≤ queueRoom)
       unfolding countsInRange
       counts-small =
           let f = given _ right in
-          (omega (arith, at 0, leb-true (getD (numbers line) 0 0) 32 (f .1 .0)), omega (arith, at 2, leb-true (getD (numbers line) 2 0) 8 (f .1 .1 .1 .0)))
+          let tasks = leb-true (getD (numbers line) 0 0) taskRoom (f .1 .0) in
+          let queues = leb-true (getD (numbers line) 2 0) queueRoom (f .1 .1 .1 .0) in
+          (omega (arith, at 0), omega (arith, at 2))
 
-      pub length-refuses : (length line ≡ 2 * (3 + getD a 0 0 + getD a 2 0) → ⊥) → firstRefused 21 ≡ firstLine line
-      unfolding firstLine firstReasons
+      pub length-refuses : (length line ≡ 2 * (3 + getD a 0 0 + getD a 2 0) → ⊥) → firstRefused 21 ≡ firstDone line
+      unfolding firstDone firstReasons
       length-refuses n =
           let tasks = at 0 in
           let queues = at 2 in
@@ -129,8 +136,8 @@ module _ (line a : List ℕ) (e : a ≡ padded 64 0 (numbers line)) (p : plain l
 
       pub accepted : length line ≡ 2 * (3 + getD a 0 0 + getD a 2 0)
           → fresh (getD a 0 0) (getD a 1 0) (getD a 2 0) (part 3 (3 + getD a 0 0) a) (part (3 + getD a 0 0) (3 + getD a 0 0 + getD a 2 0) a)
-          ≡ firstLine line
-      unfolding firstLine firstReasons firstRefused
+          ≡ firstDone line
+      unfolding firstDone firstReasons firstRefused
       accepted k =
           let count = numbers-length line in
           let tasks = getD (numbers line) 0 0 in
@@ -139,10 +146,10 @@ module _ (line a : List ℕ) (e : a ≡ padded 64 0 (numbers line)) (p : plain l
           let fits : length line ≡ 6 + 2 * (tasks + queues) = omega (arith, at 0, at 2) in
           let one : 3 + tasks - 3 ≡ tasks = omega arith in
           let two : 3 + tasks + queues - (3 + tasks) ≡ queues = omega arith in
-          let priorities : part 3 (3 + tasks) (padded 64 0 (numbers line)) ≡ prioritiesIn line =
-          part-padded 64 3 (3 + tasks) (numbers line) (omega arith) (omega arith) ∙ ap (λ n. take n (drop 3 (numbers line))) one in
-          let bounds : part (3 + tasks) (3 + tasks + queues) (padded 64 0 (numbers line)) ≡ boundsIn line =
-          part-padded 64 (3 + tasks) (3 + tasks + queues) (numbers line) (omega arith) (omega arith) ∙ ap (λ n. take n (drop (3 + tasks) (numbers line))) two in
+          let priorities : part 3 (3 + tasks) (padded numberRoom 0 (numbers line)) ≡ prioritiesIn line =
+          part-padded numberRoom 3 (3 + tasks) (numbers line) (omega arith) (omega arith) ∙ ap (λ n. take n (drop 3 (numbers line))) one in
+          let bounds : part (3 + tasks) (3 + tasks + queues) (padded numberRoom 0 (numbers line)) ≡ boundsIn line =
+          part-padded numberRoom (3 + tasks) (3 + tasks + queues) (numbers line) (omega arith) (omega arith) ∙ ap (λ n. take n (drop (3 + tasks) (numbers line))) two in
           let so-many : length (prioritiesIn line) ≡ tasks = length-take-le tasks (drop 3 (numbers line)) (rw length-drop (omega arith)) in
           let so-long : length (boundsIn line) ≡ queues = length-take-le queues (drop (3 + tasks) (numbers line)) (rw length-drop (omega arith)) in
           let small = every-take (λ n. ltb n 256) tasks (drop 3 (numbers line)) (every-drop (λ n. ltb n 256) 3 (numbers line) (numbers-small line)) in
@@ -152,6 +159,6 @@ module _ (line a : List ℕ) (e : a ≡ padded 64 0 (numbers line)) (p : plain l
           go : (b : Bool) → every boundInRange (boundsIn line) ≡ b → length line ≡ 6 + 2 * (tasksIn line + queuesIn line)
               → countsInRange (tasksIn line) (regionsIn line) (queuesIn line) ≡ true
               → cond (every boundInRange (boundsIn line)) (done (freshTable (tasksIn line) (regionsIn line) (queuesIn line) (prioritiesIn line) (boundsIn line)) 0 0 0) (refused zeroTable 20)
-              ≡ firstLine line
+              ≡ firstDone line
           go true d fits right = simp (p, long, right, eq-eqb (length line) (6 + 2 * (tasksIn line + queuesIn line)) fits, d)
           go false d fits right = simp (p, long, right, eq-eqb (length line) (6 + 2 * (tasksIn line + queuesIn line)) fits, d)

@@ -1,5 +1,5 @@
 -- What the first line does: the table after it, and its answer.
-use Prim.Native.Nat.{ℕ, _+_, _*_, _%_}
+use Prim.Native.Nat.{ℕ, _+_, _*_, _/_, _%_}
 use mathlib.Core.Bool.{Bool, cond, not, _&&_, _||_}
 use mathlib.Core.List.{List, [], _∷_}
 use lib.Dec.{eqb, ltb, leb}
@@ -17,7 +17,10 @@ use Rattle.bench_lines.specs.Start.{firstRefused}
 unfoldable pub plain : List ℕ → Bool
 plain line = leb (length line) longest && every isDigit line
 
--- "two digits each"
+-- "two digits each": half as many numbers as characters
+abbrev pub numberRoom : ℕ
+numberRoom = longest / 2
+
 unfoldable pub numbers : List ℕ → List ℕ
 numbers [] = []
 numbers (x ∷ []) = []
@@ -49,8 +52,8 @@ firstReasons line =
     ∷ when 20 (not (every boundInRange (boundsIn line)))
     ∷ []
 
-unfoldable pub firstLine : List ℕ → Done
-firstLine line =
+unfoldable pub firstDone : List ℕ → Done
+firstDone line =
     cond (isZero (first (firstReasons line)))
     (done (freshTable (tasksIn line) (regionsIn line) (queuesIn line) (prioritiesIn line) (boundsIn line)) 0 0 0)
     (firstRefused (first (firstReasons line)))

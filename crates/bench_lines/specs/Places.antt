@@ -1,28 +1,49 @@
--- The line that begins at a place: what it does, and where the next one begins.
+-- The line that begins at a place, the first or a later one, and where the next one begins.
 use Prim.Native.Nat.{ℕ}
-use mathlib.Core.Bool.{Bool}
 use mathlib.Core.List.{List}
+use Rattle.rules.specs.declared.Done.{Done}
 use Rattle.lines.specs.declared.ends.Line.{Line}
 use Rattle.lines.specs.declared.ends.Line.the-variants.{Whole, TooLong, Unended, Nothing}
 use Rattle.lines.specs.Ends.{lineAt, part}
-use Rattle.rules.specs.declared.Table.{Table}
-use Rattle.rules.specs.declared.Done.{Done}
-use Rattle.bench_lines.specs.declared.start.Standing.{Standing}
-use Rattle.bench_lines.specs.Steps.{malformed, tooLong, lineDone}
-use Rattle.bench_lines.specs.declared.first.Turn.{Turn}
+use Rattle.frames.specs.declared.call.Request.{Request}
+use Rattle.frames.specs.CallLine.{noRequest}
+use Rattle.bench_lines.specs.declared.first.FirstLine.{FirstLine}
+use Rattle.bench_lines.specs.declared.later.LaterLine.{LaterLine}
+use Rattle.bench_lines.specs.Start.{firstRefused}
+use Rattle.bench_lines.specs.First.{firstDone}
+use Rattle.bench_lines.specs.Steps.{requestIn}
 
-abbrev pub standing : Table → Bool → Standing
-standing t begun = record { table = t; begun = begun }
+-- the place behind a line; 0 where none is ended
+abbrev pub nextPlace : Line → ℕ
+nextPlace (Whole from to next) = next
+nextPlace (TooLong next) = next
+nextPlace Unended = 0
+nextPlace Nothing = 0
 
-abbrev pub turned : Done → ℕ → Turn
-turned d next = record { done = d; next = next }
+-- ---- the first line: what it does. Where it is not ended, nobody uses that: the value stands for none
 
--- what the line does, and the place behind it; 0 where no line is ended, with what an unended line gets
-abbrev pub turnOf : Standing → List ℕ → Line → Turn
-turnOf s input (Whole from to next) = turned (lineDone s (part from to input)) next
-turnOf s input (TooLong next) = turned (tooLong s) next
-turnOf s input Unended = turned (malformed (s .table)) 0
-turnOf s input Nothing = turned (malformed (s .table)) 0
+abbrev pub firstLineWith : Done → ℕ → FirstLine
+firstLineWith d next = record { done = d; next = next }
 
-unfoldable pub turnAt : Standing → List ℕ → ℕ → Turn
-turnAt s input at = turnOf s input (lineAt input at)
+abbrev pub firstDoneBy : List ℕ → Line → Done
+firstDoneBy input (Whole from to next) = firstDone (part from to input)
+firstDoneBy input (TooLong next) = firstRefused 21
+firstDoneBy input Unended = firstRefused 21
+firstDoneBy input Nothing = firstRefused 21
+
+unfoldable pub firstLineAt : List ℕ → FirstLine
+firstLineAt input = firstLineWith (firstDoneBy input (lineAt input 0)) (nextPlace (lineAt input 0))
+
+-- ---- a later line: what it asks for
+
+abbrev pub laterLineWith : Request → ℕ → LaterLine
+laterLineWith r next = record { request = r; next = next }
+
+abbrev pub requestBy : List ℕ → Line → Request
+requestBy input (Whole from to next) = requestIn (part from to input)
+requestBy input (TooLong next) = noRequest
+requestBy input Unended = noRequest
+requestBy input Nothing = noRequest
+
+unfoldable pub laterLineAt : List ℕ → ℕ → LaterLine
+laterLineAt input at = laterLineWith (requestBy input (lineAt input at)) (nextPlace (lineAt input at))

@@ -1,21 +1,21 @@
 -- What one line does: the table after it, and its answer.
 use Prim.Native.Nat.{ℕ}
-use mathlib.Core.Bool.{true, false, cond, _&&_}
+use mathlib.Core.Bool.{cond, _&&_}
 use mathlib.Core.List.{List}
 use lib.Dec.{eqb}
 use lib.ListN.{length}
 use Rattle.rules.specs.declared.Table.{Table}
-use Rattle.rules.specs.declared.Call.{Call}
 use Rattle.rules.specs.declared.Answer.{Answer}
 use Rattle.rules.specs.declared.Done.{Done}
 use Rattle.rules.specs.Numbers.{nobody}
 use Rattle.rules.specs.Words.{isZero}
 use Rattle.rules.specs.Step.{step}
+use Rattle.frames.specs.declared.call.Request.{Request}
 use Rattle.frames.specs.Calls.{callLength, callIn}
+use Rattle.frames.specs.CallLine.{requestFor, noRequest}
 use Rattle.bench_lines.specs.declared.start.Standing.{Standing}
 use Rattle.bench_lines.specs.Start.{firstRefused}
-use Rattle.bench_lines.specs.First.{plain, firstLine}
-use Rattle.bench_lines.specs.declared.later.Heard.{Heard}
+use Rattle.bench_lines.specs.First.{plain, firstDone}
 
 -- ---- a call line
 
@@ -37,19 +37,12 @@ unfoldable pub tooLong : Standing → Done
 tooLong s = cond (s .begun) (malformed (s .table)) (firstRefused 21)
 
 unfoldable pub lineDone : Standing → List ℕ → Done
-lineDone s line = cond (s .begun) (callLine (s .table) line) (firstLine line)
+lineDone s line = cond (s .begun) (callLine (s .table) line) (firstDone line)
 
 -- ---- the same in two steps: what a line asks for, and what that does
 
-abbrev pub asking : Call → Heard
-asking c = record { call = c; good = true }
+unfoldable pub requestIn : List ℕ → Request
+requestIn line = cond (plain line && eqb (length line) callLength) (requestFor (callIn line)) noRequest
 
--- what a malformed line asks for
-abbrev pub nothingHeard : Heard
-nothingHeard = record { call = record { caller = 0; operation = 0; a = 0; b = 0; c = 0 }; good = false }
-
-unfoldable pub heard : List ℕ → Heard
-heard line = cond (plain line && eqb (length line) callLength) (asking (callIn line)) nothingHeard
-
-unfoldable pub heardDone : Table → Heard → Done
-heardDone t h = cond (h .good) (step t (h .call)) (malformed t)
+unfoldable pub requestDone : Table → Request → Done
+requestDone t r = cond (r .good) (step t (r .call)) (malformed t)

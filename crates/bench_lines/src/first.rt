@@ -1,12 +1,11 @@
 // The first line of a session, which is the configuration: what it does, and where the next one begins.
 use crate::start::first_refused;
-use crate::start::malformed_answer;
 use digits::all_digits;
-use digits::byte_at;
+use digits::two_digits_of;
+use lines::LONGEST;
 use lines::Line;
 use lines::line_from;
 use rules::Done;
-use rules::Table;
 use tables::fresh;
 use validity::counts_right;
 ghost use mathlib.Core.Path.{_≡_};
@@ -16,20 +15,22 @@ ghost use lib.Dec.{eqb, ltb};
 ghost use lib.ListN.{length};
 ghost use Rattle.rules.specs.Words.{padded};
 ghost use Rattle.rules.specs.Fresh.{fresh};
-ghost use Rattle.lines.specs.Ends.{part};
-ghost use Rattle.bench_lines.specs.First.{plain, numbers, firstLine};
-ghost use Rattle.bench_lines.specs.Steps.{malformed};
-ghost use Rattle.bench_lines.specs.Places.{standing, turnAt};
+ghost use Rattle.lines.specs.Ends.{longest, part};
+ghost use Rattle.bench_lines.specs.First.{numberRoom, plain, numbers, firstDone};
+ghost use Rattle.bench_lines.specs.Places.{firstLineAt};
+
+// The most numbers of two digits that a line may have.
+const NUMBERS: usize = LONGEST / 2;
 
 // The line's numbers, two digits each, with zeros behind them.
-fn numbers_of(line: &[u8]) -> [u8; 64]
-    requires { ⌜ length (now line) ≤ 128 ⌝ }
-    ensures { λ r. ⌜ r ≡ padded 64 0 (numbers (now (line .entry))) ⌝ }
+fn numbers_of(line: &[u8]) -> [u8; NUMBERS]
+    requires { ⌜ length (now line) ≤ longest ⌝ }
+    ensures { λ r. ⌜ r ≡ padded numberRoom 0 (numbers (now (line .entry))) ⌝ }
 {
-    let mut out = [0u8; 64];
+    let mut out = [0u8; NUMBERS];
     let n = line.len() / 2;
     for i in 0..n {
-        out[i] = byte_at(line, 2 * i);
+        out[i] = two_digits_of(line[2 * i], line[2 * i + 1]);
     }
     out
 }
@@ -52,7 +53,7 @@ fn fresh_from(tasks: u8, regions: u8, queues: u8, numbers: &[u8], from: usize, t
 fn configured(line: &[u8]) -> Done
     requires { ⌜ plain (now line) ≡ true ⌝ }
     requires { ⌜ (ltb (length (now line)) 6 || eqb (length (now line) % 2) 1) ≡ false ⌝ }
-    ensures { λ r. ⌜ r ≡ firstLine (now (line .entry)) ⌝ }
+    ensures { λ r. ⌜ r ≡ firstDone (now (line .entry)) ⌝ }
 {
     let numbers = numbers_of(line);
     let tasks = numbers[0];
@@ -69,11 +70,12 @@ fn configured(line: &[u8]) -> Done
     fresh_from(tasks, regions, queues, &numbers, from, to)
 }
 
-fn first_line(line: &[u8]) -> Done
-    ensures { λ r. ⌜ r ≡ firstLine (now (line .entry)) ⌝ }
+// What a first line does, by its characters.
+fn first_done(line: &[u8]) -> Done
+    ensures { λ r. ⌜ r ≡ firstDone (now (line .entry)) ⌝ }
 {
     let n = line.len();
-    let plain = (n <= 128) & all_digits(line);
+    let plain = (n <= LONGEST) & all_digits(line);
     if !plain {
         return first_refused(21);
     }
@@ -83,41 +85,32 @@ fn first_line(line: &[u8]) -> Done
     configured(line)
 }
 
-// What a line does. `next` is 0 where no line is ended there: behind a line there is at least its line feed.
-pub struct Turn {
+// What the first line does. `next` is 0 where no line is ended: behind a line there is at least its line feed.
+pub struct FirstLine {
     pub done: Done,
     pub next: usize,
 }
 
-fn malformed_at(t: Table) -> Done
-    ensures { λ r. ⌜ r ≡ malformed t ⌝ }
-{
-    Done {
-        table: t,
-        answer: malformed_answer(t.tasks, t.elected),
-    }
-}
-
-// The first line of a session.
-pub fn first_turn(t: Table, input: &[u8]) -> Turn
-    ensures { λ r. ⌜ r ≡ turnAt (standing t false) (now (input .entry)) 0 ⌝ }
+// The first line of a session. Where it is not ended, `done` is of no use to anybody: the line gets its answer once it is.
+pub fn first_line_at(input: &[u8]) -> FirstLine
+    ensures { λ r. ⌜ r ≡ firstLineAt (now (input .entry)) ⌝ }
 {
     let line = line_from(input, 0);
     match line {
-        Line::Whole { start, end, next } => Turn {
-            done: first_line(&input[start..end]),
+        Line::Whole { start, end, next } => FirstLine {
+            done: first_done(&input[start..end]),
             next: next,
         },
-        Line::TooLong { next } => Turn {
+        Line::TooLong { next } => FirstLine {
             done: first_refused(21),
             next: next,
         },
-        Line::Unended => Turn {
-            done: malformed_at(t),
+        Line::Unended => FirstLine {
+            done: first_refused(21),
             next: 0,
         },
-        Line::Nothing => Turn {
-            done: malformed_at(t),
+        Line::Nothing => FirstLine {
+            done: first_refused(21),
             next: 0,
         },
     }

@@ -1,137 +1,78 @@
 // A line behind the first: what it asks for, where the next one begins, and what it does to a table whose store is lent.
 use crate::start::malformed_answer;
 use calls::call_told;
-use digits::all_digits;
-use frames::call_line_at;
-use frames::call_of;
+use frames::CALL_LINE;
+use frames::Request;
+use frames::request_at;
 use lines::Line;
 use lines::line_from;
-use rules::Call;
 use rules::STORE;
 use tables::Front;
 use tables::FrontDone;
 ghost use mathlib.Core.Path.{_≡_};
-ghost use Rattle.rules.specs.Numbers.{storeSize};
-ghost use Rattle.bench_lines.specs.Steps.{nothingHeard, heard};
-ghost use mathlib.Core.Bool.{true};
-ghost use Rattle.frames.specs.CallLine.{callLineAt};
-ghost use Rattle.bench_lines.specs.AskedAt.{askedAt};
 ghost use lib.ListN.{length};
+ghost use Rattle.rules.specs.Numbers.{storeSize};
 ghost use Rattle.tables.specs.Fronts.{whole, frontDone};
-ghost use Rattle.bench_lines.specs.Told.{heardTold};
+ghost use Rattle.bench_lines.specs.Places.{nextPlace, laterLineAt};
+ghost use Rattle.bench_lines.specs.Assuming.{requestAssuming};
 
-// What a line asks for: a call, where it has the form of one.
-pub struct Heard {
-    pub call: Call,
-    pub good: bool,
-}
-
-// What a malformed line asks for.
-fn unheard() -> Heard
-    ensures { λ r. ⌜ r ≡ nothingHeard ⌝ }
-{
-    Heard {
-        call: Call {
-            caller: 0,
-            operation: 0,
-            a: 0,
-            b: 0,
-            c: 0,
-        },
-        good: false,
-    }
-}
-
-// A line behind the first.
-fn heard_of(line: &[u8]) -> Heard
-    ensures { λ r. ⌜ r ≡ heard (now (line .entry)) ⌝ }
-{
-    if line.len() != 28 {
-        return unheard();
-    }
-    if !all_digits(line) {
-        return unheard();
-    }
-    Heard {
-        call: call_of(line),
-        good: true,
-    }
-}
-
-// What the line asks for. `next` is 0 where no line is ended there: behind a line there is at least its line feed.
-pub struct Asked {
-    pub heard: Heard,
+// What a line asks for. `next` is 0 where no line is ended there: behind a line there is at least its line feed.
+pub struct LaterLine {
+    pub request: Request,
     pub next: usize,
 }
 
-// A later line of which it is known that it is a call line: nothing is left to be looked for.
-fn call_asked(input: &[u8], at: usize) -> Asked
-    requires { ⌜ callLineAt (now input) at ≡ true ⌝ }
-    ensures { λ r. ⌜ r ≡ askedAt (now (input .entry)) at ⌝ }
+// The place behind a line, and 0 where none is ended.
+fn next_place(line: Line) -> usize
+    ensures { λ r. ⌜ r ≡ nextPlace line ⌝ }
 {
-    let end = at + 28;
-    Asked {
-        heard: Heard {
-            call: call_of(&input[at..end]),
-            good: true,
-        },
-        next: end + 1,
-    }
-}
-
-// Any later line, by the reader.
-fn read_at(input: &[u8], at: usize) -> Asked
-    ensures { λ r. ⌜ r ≡ askedAt (now (input .entry)) at ⌝ }
-{
-    let line = line_from(input, at);
     match line {
-        Line::Whole { start, end, next } => Asked {
-            heard: heard_of(&input[start..end]),
-            next: next,
-        },
-        Line::TooLong { next } => Asked {
-            heard: unheard(),
-            next: next,
-        },
-        Line::Unended => Asked {
-            heard: unheard(),
-            next: 0,
-        },
-        Line::Nothing => Asked {
-            heard: unheard(),
-            next: 0,
-        },
+        Line::Whole {
+            start: _,
+            end: _,
+            next,
+        } => next,
+        Line::TooLong { next } => next,
+        Line::Unended => 0,
+        Line::Nothing => 0,
     }
 }
 
-// Any later line. Nearly every one is a call line, and so that is looked at first.
-pub fn asked_at(input: &[u8], at: usize) -> Asked
-    ensures { λ r. ⌜ r ≡ askedAt (now (input .entry)) at ⌝ }
+// Nearly every line is a call line, and so that is looked at first. Any other asks for nothing: only its end is looked for.
+pub fn later_line_at(input: &[u8], at: usize) -> LaterLine
+    ensures { λ r. ⌜ r ≡ laterLineAt (now (input .entry)) at ⌝ }
 {
-    if call_line_at(input, at) {
-        return call_asked(input, at);
+    let r = request_at(input, at);
+    if r.good {
+        return LaterLine {
+            request: r,
+            next: at + CALL_LINE,
+        };
     }
-    read_at(input, at)
+    LaterLine {
+        request: r,
+        next: next_place(line_from(input, at)),
+    }
 }
 
-// The line is told by what it asks for, and `ok` says whether the table is valid: a piece of the input looks at the table once, since no
-// line changes that. The law `heard-told` says that of a table told what it is, this is what the line asks for.
-pub fn line_told(
+// What a line does that asks for `r`, where `valid` says whether the table is valid: a piece of the input looks at the table once, since no
+// line changes that. The law `request-assuming` says that where `valid` is right, this is what the line does.
+pub fn line_assuming(
     f: Front,
-    ok: bool,
-    h: Heard,
+    valid: bool,
+    r: Request,
     element: &mut [u32; STORE],
     criterion: &mut [u8; STORE],
 ) -> FrontDone
     requires { ⌜ length (now element) ≡ storeSize ⌝ }
     requires { ⌜ length (now criterion) ≡ storeSize ⌝ }
-    ensures front { λ r. ⌜ r ≡ frontDone (heardTold ok (whole f (now (element .entry)) (now (criterion .entry))) h) ⌝ }
-    ensures elements { λ _. ⌜ now (element .exit) ≡ heardTold ok (whole f (now (element .entry)) (now (criterion .entry))) h .table .element ⌝ }
-    ensures criteria { λ _. ⌜ now (criterion .exit) ≡ heardTold ok (whole f (now (element .entry)) (now (criterion .entry))) h .table .criterion ⌝ }
+    ensures front { λ d. ⌜ d ≡ frontDone (requestAssuming valid (whole f (now (element .entry)) (now (criterion .entry))) r) ⌝ }
+    ensures elements { λ _. ⌜ now (element .exit) ≡ requestAssuming valid (whole f (now (element .entry)) (now (criterion .entry))) r .table .element ⌝ }
+    ensures criteria { λ _. ⌜ now (criterion .exit) ≡ requestAssuming valid (whole f (now (element .entry)) (now (criterion .entry))) r .table .criterion ⌝ }
 {
-    if h.good {
-        let k = h.call;
-        return call_told(f, ok, k, element, criterion);
+    if r.good {
+        let k = r.call;
+        return call_told(f, valid, k, element, criterion);
     }
     FrontDone {
         front: f,

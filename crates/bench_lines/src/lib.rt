@@ -3,12 +3,11 @@ mod first;
 mod later;
 mod start;
 
-pub use first::Turn;
-pub use first::first_turn;
-pub use later::Asked;
-pub use later::Heard;
-pub use later::asked_at;
-pub use later::line_told;
+pub use first::FirstLine;
+pub use first::first_line_at;
+pub use later::LaterLine;
+pub use later::later_line_at;
+pub use later::line_assuming;
 pub use start::Standing;
 pub use start::at_start;
 pub use start::malformed_answer;

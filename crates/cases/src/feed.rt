@@ -1,46 +1,58 @@
 // An input fed to a session in pieces: the answers are written.
+use super::words::LARGEST;
 use super::words::lesser;
 use bytes::copy;
+use frames::ANSWER;
 use libc::STDOUT_FILENO;
-use session::Held;
+use session::KEPT;
+use session::PieceEnd;
 use session::Standing;
 use session::at_start;
 use session::finish;
 use session::piece;
 ghost use Prim.Native.Nat.{_+_, _≤_};
 ghost use lib.ListN.{length};
+ghost use Rattle.session.specs.Run.{mostKept};
 
-// Lays a piece behind the bytes that are held, and answers the lines that have ended.
-fn fed(s: Standing, held: usize, part: &[u8], buffer: &mut [u8], out: &mut [u8]) -> Held
-    requires { ⌜ held + length (now part) ≤ length (now buffer) ⌝ }
-    ensures { λ r. ⌜ r .held ≤ 129 ⌝ }
+// The bytes that are kept of a line that goes on, and a piece behind them.
+const BUFFER: usize = KEPT + LARGEST;
+
+// Lays a piece behind the bytes that are kept, and answers the lines that have ended.
+fn piece_answered(
+    s: Standing,
+    kept: usize,
+    part: &[u8],
+    buffer: &mut [u8],
+    out: &mut [u8],
+) -> PieceEnd
+    requires { ⌜ kept + length (now part) ≤ length (now buffer) ⌝ }
+    ensures { λ r. ⌜ r .kept ≤ mostKept ⌝ }
 {
-    copy(part, &mut buffer[held..]);
-    let p = piece(s, buffer, held + part.len(), out);
+    copy(part, &mut buffer[kept..]);
+    let p = piece(s, buffer, kept + part.len(), out);
     let written = p.written;
     io::write_all(STDOUT_FILENO, &out[0..written]);
     p
 }
 
-// The input in pieces of that size, and its end, at which what is held gets its answer. The buffer holds the bytes of a line that goes
-// on, at most 129, and a piece behind them; the output has room for an answer line to every byte of it, since a line may be its line
-// feed alone.
+// The input in pieces of that size, and its end, at which what is kept gets its answer. The output has room for an answer line to every
+// byte of the buffer, since a line may be its line feed alone.
 pub(crate) fn run(input: &[u8], size: usize)
     requires { ⌜ (1 ≤ size) × (size ≤ 4096) ⌝ }
 {
-    let mut buffer = [0u8; 4225];
-    let mut out = [0u8; 63375];
+    let mut buffer = [0u8; BUFFER];
+    let mut out = [0u8; ANSWER * BUFFER];
     let mut s = at_start();
-    let mut held = 0;
+    let mut kept = 0;
     let mut at = 0;
     while at < input.len() {
         let n = lesser(size, input.len() - at);
         let to = at + n;
-        let p = fed(s, held, &input[at..to], &mut buffer, &mut out);
+        let p = piece_answered(s, kept, &input[at..to], &mut buffer, &mut out);
         s = p.standing;
-        held = p.held;
+        kept = p.kept;
         at = to;
     }
-    let written = finish(s, &buffer[0..held], &mut out);
+    let written = finish(s, &buffer[0..kept], &mut out);
     io::write_all(STDOUT_FILENO, &out[0..written]);
 }

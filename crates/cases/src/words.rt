@@ -28,13 +28,16 @@ pub(crate) fn lesser(x: usize, y: usize) -> usize
     if x < y { x } else { y }
 }
 
-// The size of the pieces: 4096 where the word says none that the buffer has room for.
+// The largest piece.
+pub(crate) const LARGEST: usize = 4096;
+
+// The size of the pieces: the largest where the word says none, or a larger one.
 pub(crate) fn size_of(word: &[u8]) -> usize
     ensures { λ r. ⌜ (1 ≤ r) × (r ≤ 4096) ⌝ }
 {
     let n = number_of(word);
     if n == 0 {
-        return 4096;
+        return LARGEST;
     }
-    lesser(n, 4096)
+    lesser(n, LARGEST)
 }

@@ -1,8 +1,8 @@
 -- Laws of digits: how large the number of one is, and a turn and the end of the loop over characters.
-use Prim.Native.Nat.{ℕ, _+_, _<_, _≤_}
+use Prim.Native.Nat.{ℕ, _+_, _*_, _<_, _≤_}
 use mathlib.Core.Path.{_≡_, refl}
 use mathlib.Core.Bool.{Bool, true, false, _&&_, and-assoc, and-true}
-use mathlib.Core.List.{List}
+use mathlib.Core.List.{List, [], _∷_}
 use native.Mathlib.Numerals.{add-one}
 use native.Mathlib.Omega.{arith}
 use lib.Dec.{leb}
@@ -11,7 +11,7 @@ use lib.Seq.{drop-cons}
 use borrow.Author.Tests.{leb-true}
 use Rattle.rules.specs.Words.{every}
 use Rattle.rules.proofs.Bools.{and-left, and-right}
-use Rattle.digits.specs.Digits.{isFigure, isLetter, digit}
+use Rattle.digits.specs.Digits.{isFigure, isLetter, digit, valueFrom, value}
 
 -- ---- how large
 
@@ -39,3 +39,12 @@ module _ (p : ℕ → Bool) (i : ℕ) (l : List ℕ) (ok : Bool) {z : Bool} wher
   pub every-end : (ok && every p (drop i l)) ≡ z → length l ≤ i → ok ≡ z
   unfolding every
   every-end k h = rw (drop-of-length-le l h, and-true) at k
+
+-- ---- the number in two digits
+
+pub two-digits : (x y : ℕ) → value (x ∷ y ∷ []) ≡ digit x * 16 + digit y
+unfolding valueFrom
+two-digits x y = omega arith
+
+pub two-digits-small : (x y : ℕ) → value (x ∷ y ∷ []) < 256
+two-digits-small x y = rw two-digits (omega (arith, digit-small x, digit-small y))

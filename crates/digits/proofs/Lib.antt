@@ -1,5 +1,3 @@
 -- Laws for this crate's proofs and for its callers'.
 pub mod Hexadecimal
-pub mod Values
-pub mod Parts
 pub mod Put

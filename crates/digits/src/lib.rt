@@ -3,7 +3,5 @@ mod read;
 mod write;
 
 pub use read::all_digits;
-pub use read::byte_at;
-pub use read::pair_of;
-pub use read::word_at;
+pub use read::two_digits_of;
 pub use write::put_digits;

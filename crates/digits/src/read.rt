@@ -1,9 +1,8 @@
-// Upper-case hexadecimal digits, read: one, two, or a number of several that stand at a place.
+// Upper-case hexadecimal digits, read: whether characters are digits, and the number in two of them.
 ghost use mathlib.Core.Path.{_≡_};
-ghost use Prim.Native.Nat.{_+_, _*_, _≤_};
+ghost use Prim.Native.Nat.{_+_, _*_};
 ghost use Rattle.rules.specs.Words.{every};
-ghost use Rattle.digits.specs.Digits.{isDigit, digit, value, field};
-ghost use lib.ListN.{length, take, drop};
+ghost use Rattle.digits.specs.Digits.{isDigit, digit};
 
 fn is_digit(b: u8) -> bool
     ensures { λ r. ⌜ r ≡ isDigit b ⌝ }
@@ -37,48 +36,8 @@ fn digit_of(b: u8) -> u8
 }
 
 // The number in two digits, wherever they stand.
-pub fn pair_of(high: u8, low: u8) -> u8
+pub fn two_digits_of(high: u8, low: u8) -> u8
     ensures { λ r. ⌜ r ≡ digit high * 16 + digit low ⌝ }
 {
     digit_of(high) * 16 + digit_of(low)
-}
-
-// The number in up to eight digits.
-fn value_of(part: &[u8]) -> u32
-    requires { ⌜ length (now part) ≤ 8 ⌝ }
-    ensures { λ r. ⌜ r ≡ value (now (part .entry)) ⌝ }
-{
-    let mut n: u32 = 0;
-    for i in 0..part.len() {
-        n = n * 16 + (digit_of(part[i]) as u32);
-    }
-    n
-}
-
-// The n bytes from `at` on, or as many as there are.
-fn part_of(s: &[u8], at: usize, n: usize) -> &[u8]
-    ensures { λ r. ⌜ now r ≡ take n (drop at (now (s .entry))) ⌝ }
-{
-    if s.len() <= at {
-        return &s[0..0];
-    }
-    if s.len() - at < n {
-        return &s[at..];
-    }
-    let end = at + n;
-    &s[at..end]
-}
-
-// The number in the two digits at `at`.
-pub fn byte_at(s: &[u8], at: usize) -> u8
-    ensures { λ r. ⌜ r ≡ field 2 at (now (s .entry)) ⌝ }
-{
-    value_of(part_of(s, at, 2)) as u8
-}
-
-// The number in the eight digits at `at`.
-pub fn word_at(s: &[u8], at: usize) -> u32
-    ensures { λ r. ⌜ r ≡ field 8 at (now (s .entry)) ⌝ }
-{
-    value_of(part_of(s, at, 8))
 }

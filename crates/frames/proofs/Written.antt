@@ -8,9 +8,10 @@ use lib.Seq.{take-at, drop-at, drop-cons, drop-drop, length-take-le, set-at}
 use borrow.Author.Tests.{le-leb, lt-leb}
 use borrow.Rule.Slice.PartMut.{midOf, putMid}
 use Rattle.rules.specs.declared.Answer.{Answer}
+use Rattle.lines.specs.Ends.{lineFeed}
 use Rattle.digits.specs.Digits.{digits}
 use Rattle.digits.proofs.Put.{digits-length}
-use Rattle.frames.specs.Answers.{answerLine, placed}
+use Rattle.frames.specs.Answers.{answerLength, answerLine, placed}
 
 -- ---- a list written from its start on: l has `front` for the first a bytes of `old`
 
@@ -37,7 +38,7 @@ written-last b a {front} {old} {l} w h =
     rw (w .whole, drop-cons old a 0 (omega arith), drop-of-length-le old past, set-at front (getD old a 0) [] b a (w .long))
 
 -- the answer line, its numbers one behind the other
-pub answer-length : (r : Answer) → length (answerLine r) ≡ 15
+pub answer-length : (r : Answer) → length (answerLine r) ≡ answerLength
 unfolding answerLine
 answer-length r = simp (length-append, digits-length)
 
@@ -51,9 +52,9 @@ module _ (r : Answer) (old status value key elected : List ℕ) where
   abbrev third : List ℕ
   third = putMid 10 2 second key
 
-  pub answer-written : length old ≡ 15 → status ≡ digits (length (midOf 0 2 old)) (r .status)
+  pub answer-written : length old ≡ answerLength → status ≡ digits (length (midOf 0 2 old)) (r .status)
       → value ≡ digits (length (midOf 2 8 first)) (r .value) → key ≡ digits (length (midOf 10 2 second)) (r .key)
-      → elected ≡ digits (length (midOf 12 2 third)) (r .elected) → set (putMid 12 2 third elected) 14 10 ≡ answerLine r
+      → elected ≡ digits (length (midOf 12 2 third)) (r .elected) → set (putMid 12 2 third elected) 14 lineFeed ≡ answerLine r
   unfolding answerLine
   answer-written h s v k e =
       let start : Written 0 [] old old = record { long = refl; whole = refl } in
@@ -61,7 +62,7 @@ module _ (r : Answer) (old status value key elected : List ℕ) where
       let two = written-more 8 (r .value) 2 value one (omega arith) v in
       let three = written-more 2 (r .key) 10 key two (omega arith) k in
       let four = written-more 2 (r .elected) 12 elected three (omega arith) e in
-      written-last 10 14 four h
+      written-last lineFeed 14 four h
 
 -- ---- bytes written over those that stand from a place on
 

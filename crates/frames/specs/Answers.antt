@@ -8,6 +8,10 @@ use Rattle.rules.specs.declared.Answer.{Answer}
 use Rattle.digits.specs.Digits.{digits}
 use Rattle.lines.specs.Ends.{lineFeed}
 
+-- 14 digits, and the line feed
+abbrev pub answerLength : ℕ
+answerLength = 15
+
 unfoldable pub answerLine : Answer → List ℕ
 answerLine r = digits 2 (r .status) ++ digits 8 (r .value) ++ digits 2 (r .key) ++ digits 2 (r .elected) ++ lineFeed ∷ []
 

@@ -1,8 +1,5 @@
--- What document 01 says of the call in a line.
--- What the numbers of a call line are made of.
--- What document 01 says of the answer line.
--- What document 01 says of a call line: its digits and its line feed.
+-- What document 01 says of a call line, of the call in it, and of the answer line.
 pub mod Calls
-pub mod Pairs
-pub mod Answers
+pub mod TwoDigits
 pub mod CallLine
+pub mod Answers

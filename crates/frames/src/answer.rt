@@ -3,11 +3,14 @@ use digits::put_digits;
 use rules::Answer;
 ghost use mathlib.Core.Path.{_≡_};
 ghost use lib.ListN.{length};
-ghost use Rattle.frames.specs.Answers.{answerLine, placed};
+ghost use Rattle.frames.specs.Answers.{answerLength, answerLine, placed};
 
-// Fills a line's 15 places.
+// The bytes of an answer line: status 2 digits, value 8, key 2, elected 2, and its line feed.
+pub const ANSWER: usize = 15;
+
+// Fills the places of a line.
 fn fill(line: &mut [u8], r: Answer)
-    requires { ⌜ length (now line) ≡ 15 ⌝ }
+    requires { ⌜ length (now line) ≡ answerLength ⌝ }
     ensures { λ _. ⌜ now (line .exit) ≡ answerLine r ⌝ }
 {
     put_digits(&mut line[0..2], r.status as u32);
@@ -17,16 +20,16 @@ fn fill(line: &mut [u8], r: Answer)
     line[14] = b'\n';
 }
 
-// Writes the answer line over the 15 bytes from `at` on; nothing where there are fewer.
+// Writes the answer line over the bytes from `at` on; nothing where there are too few.
 pub fn put_answer(out: &mut [u8], at: usize, r: Answer)
     ensures { λ _. ⌜ now (out .exit) ≡ placed at (answerLine r) (now (out .entry)) ⌝ }
 {
-    if out.len() < 15 {
+    if out.len() < ANSWER {
         return;
     }
-    if out.len() - 15 < at {
+    if out.len() - ANSWER < at {
         return;
     }
-    let end = at + 15;
+    let end = at + ANSWER;
     fill(&mut out[at..end], r);
 }

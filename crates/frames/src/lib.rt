@@ -2,6 +2,8 @@
 mod answer;
 mod call;
 
+pub use answer::ANSWER;
 pub use answer::put_answer;
-pub use call::call_line_at;
-pub use call::call_of;
+pub use call::CALL_LINE;
+pub use call::Request;
+pub use call::request_at;

@@ -53,7 +53,8 @@ module _ {M : Type 1} (𝓤 : URA M) (H : Heap 𝓤) (A : Atoms 𝓤) (W : Given
   pub lies-out : (r : Reader) → ent 𝓤 (sem 𝓤 H A (mem R .lies r l 0)) (sep 𝓤 (sem 𝓤 H A (Cell (T′.lowered r))) (sem 𝓤 H A (R .own r (T′.lowered r ∷ []))))
   unfolding partOf
   lies-out r =
-      qed W (‵ (mem R .lies r l 0) ∷ []) ∵ fpick ! (λ vs. fsplit ! $ spelt ! R (Is R) (shows 𝓤 H A R) (LL.vals (T.the-type α) (T′.the-laws α)) (LL.tells (T.the-type α) (T′.the-laws α)) fullShare r vs l 0 $
+      qed W (‵ (mem R .lies r l 0) ∷ []) ∵ fpick ! (λ vs. fsplit ! $
+      spelt ! R (Is R) (shows 𝓤 H A R) (LL.vals (T.the-type α) (T′.the-laws α)) (LL.tells (T.the-type α) (T′.the-laws α)) fullShare r vs l 0 $
       use1 W (‵ (Cell (T′.lowered r))) (W .laws .raw-at fullShare (T′.mir erased) l 0 (T′.lowered r)) $ done !)
 
   -- the tokens while the Reader is lent
@@ -69,7 +70,8 @@ module _ {M : Type 1} (𝓤 : URA M) (H : Heap 𝓤) (A : Atoms 𝓤) (W : Given
   pub lends : (ν : ℕ) (r : Reader) → ent 𝓤 (sep 𝓤 (A .lft (ν ∷ []) fullShare) (sep 𝓤 (A .lft κ q) (sem 𝓤 H A (mem R .lies r l 0)))) (H .⇛ (ex 𝓤 (Lent ν r)))
   lends ν r =
       qed W (‵ (flft (ν ∷ []) fullShare) ∷ ‵ (flft κ q) ∷ ‵ (mem R .lies r l 0) ∷ []) ∵ updating ! $ move ! (2 ∷ []) $
-      use1 W (later (some (λ (δ : GName). ‵ (MutRef (named 0) (ν ∷ κ) R .own (ref δ r) (vptr l 0 ∷ [])) ⊛ ‵ (flent (ν ∷ κ) (Body (mem R) l 0 δ))))) (lends-ref 𝓤 H A W R (named 0) (ν ∷ κ) r l 0) $ await ! tt $ pick ! (λ δ. split ! $
+      use1 W (later (some (λ (δ : GName). ‵ (MutRef (named 0) (ν ∷ κ) R .own (ref δ r) (vptr l 0 ∷ [])) ⊛ ‵ (flent (ν ∷ κ) (Body (mem R) l 0 δ)))))
+      (lends-ref 𝓤 H A W R (named 0) (ν ∷ κ) r l 0) $ await ! tt $ pick ! (λ δ. split ! $
       -- [the reference; the lender's part; ν's token; κ's token]
       move ! (3 ∷ []) $ use1 W (‵ (flft κ (PosShare·left q)) ⊛ ‵ (flft κ (PosShare·right q))) (W .lfts .lft-split κ q) $ split ! $
       move ! (4 ∷ 0 ∷ []) $ use2 W (‵ (flft (ν ∷ κ) (PosShare·left q)) ⊛ raw (Rest 𝓤 H A W ν (PosShare·left q))) (within-token 𝓤 H A W ν κ (PosShare·left q)) $ split ! $
@@ -77,9 +79,11 @@ module _ {M : Type 1} (𝓤 : URA M) (H : Heap 𝓤) (A : Atoms 𝓤) (W : Given
       at-once ! $ show ! (Lent ν r) δ $ nothing ! $ move ! (3 ∷ 0 ∷ []) $ join ! $ move ! (1 ∷ 0 ∷ []) $ join ! $ frame ! $ move ! (1 ∷ []) $ frame ! $ done !)
 
   pub comes-back : (ν : ℕ) (δ : GName) (w : Reader)
-      → ent 𝓤 (sep 𝓤 (Tokens ν) (sep 𝓤 (Kept ν δ) (A .res δ (R .coded .code w)))) (H .⇛ (sep 𝓤 (A .lft κ q) (sep 𝓤 (sem 𝓤 H A (Cell (T′.lowered w))) (sem 𝓤 H A (R .own w (T′.lowered w ∷ []))))))
+      → ent 𝓤 (sep 𝓤 (Tokens ν) (sep 𝓤 (Kept ν δ) (A .res δ (R .coded .code w))))
+      (H .⇛ (sep 𝓤 (A .lft κ q) (sep 𝓤 (sem 𝓤 H A (Cell (T′.lowered w))) (sem 𝓤 H A (R .own w (T′.lowered w ∷ []))))))
   comes-back ν δ w =
-      qed W ((‵ (flft (ν ∷ κ) (PosShare·left q)) ⊛ ‵ (flft κ (PosShare·right q)) ⊛ ‵ ftrue) ∷ (raw (Rest 𝓤 H A W ν (PosShare·left q)) ⊛ ‵ (flent (ν ∷ κ) (Body (mem R) l 0 δ))) ∷ ‵ (fres δ (R .coded .code w)) ∷ []) ∵
+      qed W ((‵ (flft (ν ∷ κ) (PosShare·left q)) ⊛ ‵ (flft κ (PosShare·right q)) ⊛ ‵ ftrue) ∷
+      (raw (Rest 𝓤 H A W ν (PosShare·left q)) ⊛ ‵ (flent (ν ∷ κ) (Body (mem R) l 0 δ))) ∷ ‵ (fres δ (R .coded .code w)) ∷ []) ∵
       updating ! $ split ! $ move ! (2 ∷ []) $ split ! $ move ! (2 ∷ 0 ∷ []) $
       use2 W (later (‵ (fdead (ν ∷ κ)) ⊛ ‵ (flft κ (PosShare·left q)))) (within-end 𝓤 H A W ν κ (PosShare·left q)) $ await ! tt $ split ! $
       -- [ν ∷ κ is over; a half of κ's token; the lender's part; the other half; the last value]

@@ -5,9 +5,12 @@ ghost use lib.ListN.{length, drop};
 ghost use Rattle.lines.specs.Ends.{lineLength, lineAt};
 ghost use Rattle.lines.specs.Reading.{placeAfter};
 
+// The most bytes that a line may have before its line feed.
+pub const LONGEST: usize = 128;
+
 // What begins at a place.
 pub enum Line {
-    // A line of at most 128 bytes, start..end, and the place behind its line feed.
+    // A line of at most LONGEST bytes, start..end, and the place behind its line feed.
     Whole {
         start: usize,
         end: usize,
@@ -24,7 +27,7 @@ pub enum Line {
 }
 
 // The place of the first line feed from `at` on, or the end.
-fn feed_from(s: &[u8], at: usize) -> usize
+fn line_feed_from(s: &[u8], at: usize) -> usize
     requires { ⌜ at ≤ length (now s) ⌝ }
     ensures first { λ r. ⌜ r ≡ at + lineLength (drop at (now (s .entry))) ⌝ }
     ensures within { λ r. ⌜ r ≤ length (now (s .entry)) ⌝ }
@@ -37,17 +40,18 @@ fn feed_from(s: &[u8], at: usize) -> usize
     s.len()
 }
 
+// The line that begins at a place.
 pub(crate) fn line_at(s: &[u8], at: usize) -> Line
     ensures { λ r. ⌜ r ≡ lineAt (now (s .entry)) at ⌝ }
 {
     if s.len() <= at {
         return Line::Nothing;
     }
-    let end = feed_from(s, at);
+    let end = line_feed_from(s, at);
     if end == s.len() {
         return Line::Unended;
     }
-    if 128 < end - at {
+    if LONGEST < end - at {
         return Line::TooLong { next: end + 1 };
     }
     Line::Whole {

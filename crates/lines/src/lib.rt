@@ -2,7 +2,10 @@
 mod ends;
 mod reader;
 
+pub use ends::LONGEST;
 pub use ends::Line;
 pub use reader::Reader;
 pub use reader::left;
 pub use reader::line_from;
+pub use reader::next_line;
+pub use reader::reader_of;

@@ -15,14 +15,14 @@ pub struct Reader<'a> {
 }
 
 // A reader at a place.
-fn reader_of<'a>(log: &'a [u8], at: usize) -> Reader<'a>
+pub fn reader_of<'a>(log: &'a [u8], at: usize) -> Reader<'a>
     ensures { λ r. ⌜ (r .log ≡ log .entry) × (r .at ≡ at) ⌝ }
 {
     Reader { log, at }
 }
 
 // The line at the reader's place; the reader moves behind it.
-fn next_line<'s, 'a>(r: &'s mut Reader<'a>) -> Line
+pub fn next_line<'s, 'a>(r: &'s mut Reader<'a>) -> Line
     ensures { λ l. ⌜ (l ≡ lineAt (now (now (r .entry) .log)) (now (r .entry) .at)) × (now (r .exit) .log ≡ now (r .entry) .log)
         × (now (r .exit) .at ≡ placeAfter (now (now (r .entry) .log)) (lineAt (now (now (r .entry) .log)) (now (r .entry) .at))) ⌝ }
 {
@@ -39,6 +39,7 @@ pub fn left<'a>(r: Reader<'a>) -> &'a [u8]
     rest_at(r.log, r.at)
 }
 
+// The line at a place, by a reader that is put there: what callers use who remember the place themselves.
 pub fn line_from(s: &[u8], at: usize) -> Line
     ensures { λ r. ⌜ r ≡ lineAt (now (s .entry)) at ⌝ }
 {

@@ -9,13 +9,15 @@ use lib.Dec.{eqb, leb}
 use lib.ListN.{length, take, drop, getD, set, length-take, length-drop}
 use lib.Seq.{take-suc, take-all, take-take, take-add, drop-at, drop-cons, length-take-le, set-at, getD-append-add, getD-drop}
 use borrow.Author.Tests.{leb-true, leb-false}
+use Rattle.lines.specs.Ends.{lineFeed}
+use Rattle.frames.specs.Answers.{answerLength}
 use Rattle.bench_lines.specs.declared.start.Standing.{Standing}
-use Rattle.session.specs.declared.feed.Fed.{Fed}
-use Rattle.session.specs.declared.pieces.Held.{Held}
-use Rattle.session.specs.Lines.{onto, cut, stood}
-use Rattle.session.specs.Feed.{fitting, taken, over, feedTold, pieceAnswers}
-use Rattle.session.specs.Run.{kept}
-use Rattle.session.specs.Pieces.{pieceLeft, pieceTold}
+use Rattle.session.specs.declared.feed.Progress.{Progress}
+use Rattle.session.specs.declared.pieces.PieceEnd.{PieceEnd}
+use Rattle.session.specs.Lines.{onto, cut, standingAfter}
+use Rattle.session.specs.Feed.{fitting, taken, over, feedProgress, pieceAnswers}
+use Rattle.session.specs.Run.{mostKept, kept}
+use Rattle.session.specs.Pieces.{pieceLeft, pieceResult}
 
 -- ---- a part moved to the front
 
@@ -31,7 +33,8 @@ module _ (from n i : ℕ) (l s : List ℕ) (e : s ≡ take i (drop from l) ++ dr
       let read : getD s (from + i) 0 ≡ getD (drop from l) i 0 =
       rw (e, place, getD-append-add (take i (drop from l)) (drop i l) from 0, getD-drop i l from 0, same) (sym (getD-drop from l i 0)) in
       let inside : i < length (drop from l) = rw length-drop (omega arith) in
-      rw (read, e, drop-cons l i 0 (omega arith), set-at (take i (drop from l)) (getD l i 0) (drop (suc i) l) (getD (drop from l) i 0) i long, add-one, take-suc (drop from l) i 0 inside)
+      let stored = set-at (take i (drop from l)) (getD l i 0) (drop (suc i) l) (getD (drop from l) i 0) i long in
+      rw (read, e, drop-cons l i 0 (omega arith), stored, add-one, take-suc (drop from l) i 0 inside)
       (sym (append-assoc (take i (drop from l)) (getD (drop from l) i 0 ∷ []) (drop (suc i) l)))
 
   pub front-end : i ≤ n → n ≤ i → s ≡ over (take n (drop from l)) l
@@ -53,13 +56,13 @@ take-lesser end l = go (leb end (length l)) refl
 pub cut-fits : (bs : List ℕ) → taken (cut bs .lines) + length (cut bs .rest) ≡ length bs
 unfolding cut taken
 cut-fits [] = refl
-cut-fits (b ∷ bs) = go (eqb b 10) refl (cut-fits bs)
+cut-fits (b ∷ bs) = go (eqb b lineFeed) refl (cut-fits bs)
   where
     more : (lines : List (List ℕ)) (rest : List ℕ) → taken (onto b lines rest .lines) + length (onto b lines rest .rest) ≡ suc (taken lines + length rest)
     more [] rest = omega arith
     more (line ∷ lines) rest = omega arith
 
-    go : (x : Bool) → eqb b 10 ≡ x → taken (cut bs .lines) + length (cut bs .rest) ≡ length bs
+    go : (x : Bool) → eqb b lineFeed ≡ x → taken (cut bs .lines) + length (cut bs .rest) ≡ length bs
         → taken (cut (b ∷ bs) .lines) + length (cut (b ∷ bs) .rest) ≡ suc (length bs)
     go true e ih = rw e (omega arith)
     go false e ih = rw e (more (cut bs .lines) (cut bs .rest) ∙ ap suc ih)
@@ -72,41 +75,41 @@ taken-take (suc n) (line ∷ lines) = let ih = taken-take n lines in omega arith
 
 pub taken-within : (room : ℕ) (input : List ℕ) → taken (fitting room input) ≤ length input
 unfolding fitting
-taken-within room input = let t = taken-take (room / 15) (cut input .lines) in let c = cut-fits input in omega arith
+taken-within room input = let t = taken-take (room / answerLength) (cut input .lines) in let c = cut-fits input in omega arith
 
 drop-take : (from m : ℕ) (l : List ℕ) → from + m ≤ length l → drop from (take (from + m) l) ≡ take m (drop from l)
 drop-take from m l h = rw take-add (drop-at (take from l) (take m (drop from l)) from (length-take-le from l (omega arith)))
 
-pub kept-front : (from to : ℕ) (l : List ℕ) → from ≤ to → to ≤ length l → take (min (to - from) 129) (drop from l) ≡ kept (drop from (take to l))
+pub kept-front : (from to : ℕ) (l : List ℕ) → from ≤ to → to ≤ length l → take (min (to - from) mostKept) (drop from l) ≡ kept (drop from (take to l))
 unfolding kept
 kept-front from to l h k =
     let whole : to ≡ from + (to - from) = omega arith in
     let part : drop from (take to l) ≡ take (to - from) (drop from l) = ap (λ n. drop from (take n l)) whole ∙ drop-take from (to - from) l (omega arith) in
-    rw part (go (leb (to - from) 129) refl)
+    rw part (go (leb (to - from) mostKept) refl)
   where
-    go : (b : Bool) → leb (to - from) 129 ≡ b → take (min (to - from) 129) (drop from l) ≡ take 129 (take (to - from) (drop from l))
+    go : (b : Bool) → leb (to - from) mostKept ≡ b → take (min (to - from) mostKept) (drop from l) ≡ take mostKept (take (to - from) (drop from l))
     go true e =
-        let few = leb-true (to - from) 129 e in
-        let same : min (to - from) 129 ≡ to - from = omega arith in
-        let short : length (take (to - from) (drop from l)) ≤ 129 = rw length-take (omega arith) in
-        rw (same, take-all 129 (take (to - from) (drop from l)) short)
+        let few = leb-true (to - from) mostKept e in
+        let same : min (to - from) mostKept ≡ to - from = omega arith in
+        let short : length (take (to - from) (drop from l)) ≤ mostKept = rw length-take (omega arith) in
+        rw (same, take-all mostKept (take (to - from) (drop from l)) short)
     go false e =
-        let many = leb-false (to - from) 129 e in
-        let same : min (to - from) 129 ≡ 129 = omega arith in
-        rw (same, take-take 129 (to - from) (drop from l) (omega arith))
+        let many = leb-false (to - from) mostKept e in
+        let same : min (to - from) mostKept ≡ mostKept = omega arith in
+        rw (same, take-take mostKept (to - from) (drop from l) (omega arith))
 
 -- as the code has it: `to` is where the piece ends in the buffer l, f what its lines did
-module _ (s : Standing) (room end : ℕ) (l : List ℕ) (to : ℕ) (t : to ≡ min end (length l)) (f : Fed)
-    (e : f ≡ feedTold s room (take (to - 0) (drop 0 l))) where
+module _ (s : Standing) (room end : ℕ) (l : List ℕ) (to : ℕ) (t : to ≡ min end (length l)) (f : Progress)
+    (e : f ≡ feedProgress s room (take (to - 0) (drop 0 l))) where
   input : take (to - 0) (drop 0 l) ≡ take end l
   input = rw t (take-lesser end l)
 
-  told : f ≡ feedTold s room (take end l)
-  told = e ∙ ap (feedTold s room) input
+  came : f ≡ feedProgress s room (take end l)
+  came = e ∙ ap (feedProgress s room) input
 
   place : f .next ≡ taken (fitting room (take end l))
-  unfolding feedTold
-  place = ap (λ x. x .next) told
+  unfolding feedProgress
+  place = ap (λ x. x .next) came ∙ omega arith
 
   pub next-within : f .next ≤ to
   next-within =
@@ -118,7 +121,7 @@ module _ (s : Standing) (room end : ℕ) (l : List ℕ) (to : ℕ) (t : to ≡ m
       → new ≡ over (pieceAnswers s room (take end l)) out
   answers-there out new k = k ∙ ap (λ xs. over (pieceAnswers s room xs) out) input
 
-  module _ (n : ℕ) (k : n ≡ min (to - f .next) 129) where
+  module _ (n : ℕ) (k : n ≡ min (to - f .next) mostKept) where
     pub front-fits : f .next + n ≤ length l
     front-fits = let h = next-within in omega arith
 
@@ -133,22 +136,22 @@ module _ (s : Standing) (room end : ℕ) (l : List ℕ) (to : ℕ) (t : to ≡ m
     pub left-moved : (new : List ℕ) → new ≡ over (take n (drop (f .next) l)) l → new ≡ over (pieceLeft room (take end l)) l
     left-moved new h = h ∙ ap (λ xs. over xs l) left-there
 
-    pub held-told : record { standing = f .standing; held = n; written = f .written } ≡ pieceTold s room (take end l)
-    unfolding pieceTold feedTold
-    held-told =
+    pub piece-result : record { standing = f .standing; kept = n; written = f .written } ≡ pieceResult s room (take end l)
+    unfolding pieceResult feedProgress
+    piece-result =
         let so-many : length (take n (drop (f .next) l)) ≡ n = length-take-le n (drop (f .next) l) (rw length-drop (omega (arith, front-fits))) in
         let many : n ≡ length (pieceLeft room (take end l)) = sym so-many ∙ ap length left-there in
-        let stands : f .standing ≡ stood s (fitting room (take end l)) = ap (λ x. x .standing) told in
-        let wrote : f .written ≡ 15 * length (fitting room (take end l)) = ap (λ x. x .written) told in
+        let stands : f .standing ≡ standingAfter s (fitting room (take end l)) = ap (λ x. x .standing) came in
+        let wrote : f .written ≡ answerLength * length (fitting room (take end l)) = ap (λ x. x .written) came ∙ omega arith in
         rw (stands, wrote, many)
 
--- ---- how much is held and written, as a caller asks
+-- ---- how much is kept and written, as a caller asks
 
-module _ (s : Standing) (room : ℕ) (input : List ℕ) (p : Held) (e : p ≡ pieceTold s room input) where
-  pub held-small : p .held ≤ 129
-  unfolding pieceTold pieceLeft kept
-  held-small = rw (e, length-take) (omega arith)
+module _ (s : Standing) (room : ℕ) (input : List ℕ) (p : PieceEnd) (e : p ≡ pieceResult s room input) where
+  pub kept-small : p .kept ≤ mostKept
+  unfolding pieceResult pieceLeft kept
+  kept-small = rw (e, length-take) (omega arith)
 
   pub written-within : p .written ≤ room
-  unfolding pieceTold fitting
+  unfolding pieceResult fitting
   written-within = rw (e, length-take) (omega arith)

@@ -1,12 +1,9 @@
--- Laws for this crate's proofs and for its callers'.
--- Laws for this crate's proofs.
--- Laws for this crate's proofs, and the theorem of the run in parts.
--- What follows of a bench session's definitions.
+-- Laws for this crate's proofs and for its callers', and the theorem of the run in parts.
 pub mod Cuts
-pub mod Turns
-pub mod FeedingSteps
-pub mod Tests
-pub mod Ends
+pub mod NextLines
+pub mod PieceLoop
+pub mod FirstAnswer
+pub mod Ending
 pub mod Buffers
 pub mod Rooms
-pub mod Streams
+pub mod Parts

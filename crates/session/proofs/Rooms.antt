@@ -7,6 +7,8 @@ use native.Mathlib.Omega.{arith}
 use lib.Dec.{eqb}
 use lib.ListN.{length, drop}
 use lib.Seq.{take-all}
+use Rattle.lines.specs.Ends.{lineFeed}
+use Rattle.frames.specs.Answers.{answerLength}
 use Rattle.session.specs.Lines.{onto, cut}
 use Rattle.session.specs.Feed.{fitting, taken}
 use Rattle.session.specs.Run.{kept}
@@ -16,7 +18,7 @@ use Rattle.session.proofs.Buffers.{cut-fits}
 cut-behind : (bs : List ℕ) → drop (taken (cut bs .lines)) bs ≡ cut bs .rest
 unfolding cut taken
 cut-behind [] = refl
-cut-behind (b ∷ bs) = go (eqb b 10) refl (cut-behind bs)
+cut-behind (b ∷ bs) = go (eqb b lineFeed) refl (cut-behind bs)
   where
     more : (lines : List (List ℕ)) (rest : List ℕ) → drop (taken lines) bs ≡ rest → drop (taken (onto b lines rest .lines)) (b ∷ bs) ≡ onto b lines rest .rest
     more [] rest h = ap (λ xs. b ∷ xs) h
@@ -24,7 +26,7 @@ cut-behind (b ∷ bs) = go (eqb b 10) refl (cut-behind bs)
         let one : suc (suc (length line)) + taken lines ≡ suc (suc (length line) + taken lines) = omega arith in
         rw one h
 
-    go : (x : Bool) → eqb b 10 ≡ x → drop (taken (cut bs .lines)) bs ≡ cut bs .rest → drop (taken (cut (b ∷ bs) .lines)) (b ∷ bs) ≡ cut (b ∷ bs) .rest
+    go : (x : Bool) → eqb b lineFeed ≡ x → drop (taken (cut bs .lines)) bs ≡ cut bs .rest → drop (taken (cut (b ∷ bs) .lines)) (b ∷ bs) ≡ cut (b ∷ bs) .rest
     go true e ih = let one : suc 0 + taken (cut bs .lines) ≡ suc (taken (cut bs .lines)) = omega arith in rw (e, one) ih
     go false e ih = rw e (more (cut bs .lines) (cut bs .rest) ih)
 
@@ -33,10 +35,13 @@ unfolding taken
 lines-few [] = omega arith
 lines-few (line ∷ lines) = let ih = lines-few lines in omega arith
 
-module _ (room : ℕ) (input : List ℕ) (enough : 15 * length input ≤ room) where
+module _ (room : ℕ) (input : List ℕ) (enough : answerLength * length input ≤ room) where
   pub fitting-all : fitting room input ≡ cut input .lines
   unfolding fitting
-  fitting-all = take-all (room / 15) (cut input .lines) (let few = lines-few (cut input .lines) in let fits = cut-fits input in omega arith)
+  fitting-all =
+      let few = lines-few (cut input .lines) in
+      let fits = cut-fits input in
+      take-all (room / answerLength) (cut input .lines) (omega arith)
 
   pub left-all : pieceLeft room input ≡ kept (cut input .rest)
   unfolding pieceLeft

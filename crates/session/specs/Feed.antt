@@ -6,17 +6,14 @@ use lib.Dec.{leb}
 use lib.ListN.{length, take, drop}
 use Rattle.rules.specs.declared.Table.{Table}
 use Rattle.rules.specs.Words.{isZero}
-use Rattle.frames.specs.Answers.{answerLine, placed}
+use Rattle.frames.specs.Answers.{answerLength, answerLine, placed}
 use Rattle.bench_lines.specs.declared.start.Standing.{Standing}
-use Rattle.bench_lines.specs.Places.{standing, turnAt}
-use Rattle.session.specs.declared.feed.Fed.{Fed}
-use Rattle.session.specs.Lines.{cut, answered, stood}
+use Rattle.bench_lines.specs.Start.{standing}
+use Rattle.bench_lines.specs.Places.{firstLineAt}
+use Rattle.session.specs.declared.feed.Progress.{Progress}
+use Rattle.session.specs.Lines.{cut, answersTo, standingAfter}
 
 -- ---- the lines of a piece
-
--- an answer line has 15 bytes
-abbrev pub answerLength : ℕ
-answerLength = 15
 
 -- the lines that are answered, where the buffer has so many bytes
 unfoldable pub fitting : ℕ → List ℕ → List (List ℕ)
@@ -32,24 +29,31 @@ abbrev pub over : List ℕ → List ℕ → List ℕ
 over bytes out = bytes ++ drop (length bytes) out
 
 unfoldable pub pieceAnswers : Standing → ℕ → List ℕ → List ℕ
-pieceAnswers s room input = answered s (fitting room input)
+pieceAnswers s room input = answersTo s (fitting room input)
 
-abbrev pub fedAt : Table → Bool → ℕ → ℕ → Fed
-fedAt t begun next written = record { standing = record { table = t; begun = begun }; next = next; written = written }
+-- ---- how far they have come
+
+abbrev pub progressOf : Table → Bool → ℕ → ℕ → Progress
+progressOf t begun next written = record { standing = standing t begun; next = next; written = written }
+
+-- behind the lines that begin at a place, where so many bytes are written already
+abbrev pub progressAfter : Standing → ℕ → ℕ → List (List ℕ) → Progress
+progressAfter s at written lines =
+    record { standing = standingAfter s lines; next = at + taken lines; written = written + answerLength * length lines }
 
 -- the first line is answered: the session stands before it, there is room for its answer, and it is ended
-unfoldable pub opens : Standing → ℕ → List ℕ → Bool
-opens s room input = not (s .begun) && (leb answerLength room && not (isZero (turnAt s input 0 .next)))
+unfoldable pub answersFirst : Standing → ℕ → List ℕ → Bool
+answersFirst s room input = not (s .begun) && (leb answerLength room && not (isZero (firstLineAt input .next)))
 
-unfoldable pub openedTold : Standing → ℕ → List ℕ → Fed
-openedTold s room input =
-    cond (opens s room input)
-    (fedAt (turnAt s input 0 .done .table) true (turnAt s input 0 .next) answerLength)
-    (fedAt (s .table) (s .begun) 0 0)
+unfoldable pub firstProgress : Standing → ℕ → List ℕ → Progress
+firstProgress s room input =
+    cond (answersFirst s room input)
+    (progressOf (firstLineAt input .done .table) true (firstLineAt input .next) answerLength)
+    (progressOf (s .table) (s .begun) 0 0)
 
-unfoldable pub openedOut : Standing → List ℕ → List ℕ → List ℕ
-openedOut s input out =
-    cond (opens s (length out) input) (placed 0 (answerLine (turnAt s input 0 .done .answer)) out) out
+unfoldable pub firstOut : Standing → List ℕ → List ℕ → List ℕ
+firstOut s input out =
+    cond (answersFirst s (length out) input) (placed 0 (answerLine (firstLineAt input .done .answer)) out) out
 
 -- the lines from a place on, as many as there may be
 abbrev pub ahead : List ℕ → ℕ → ℕ → List (List ℕ)
@@ -59,23 +63,13 @@ ahead input at left = take left (cut (drop at input) .lines)
 abbrev pub laterLines : List ℕ → ℕ → ℕ → ℕ → List (List ℕ)
 laterLines input at written room = ahead input at ((room - written) / answerLength)
 
-unfoldable pub laterTold : Table → List ℕ → ℕ → ℕ → ℕ → Fed
-laterTold t input at written room =
-    record {
-      standing = stood (standing t true) (laterLines input at written room);
-      next = at + taken (laterLines input at written room);
-      written = written + answerLength * length (laterLines input at written room);
-    }
+unfoldable pub laterProgress : Table → List ℕ → ℕ → ℕ → ℕ → Progress
+laterProgress t input at written room = progressAfter (standing t true) at written (laterLines input at written room)
 
 unfoldable pub laterOut : Table → List ℕ → ℕ → ℕ → List ℕ → List ℕ
 laterOut t input at written out =
-    (take written out ++ answered (standing t true) (laterLines input at written (length out)))
+    (take written out ++ answersTo (standing t true) (laterLines input at written (length out)))
     ++ drop (written + answerLength * length (laterLines input at written (length out))) out
 
-unfoldable pub feedTold : Standing → ℕ → List ℕ → Fed
-feedTold s room input =
-    record {
-      standing = stood s (fitting room input);
-      next = taken (fitting room input);
-      written = answerLength * length (fitting room input);
-    }
+unfoldable pub feedProgress : Standing → ℕ → List ℕ → Progress
+feedProgress s room input = progressAfter s 0 0 (fitting room input)

@@ -1,8 +1,7 @@
--- What document 01 says of the lines of an input, one after the other, and how many of them a buffer has room for.
--- What document 01 says of the end of the bench's input.
--- What document 01 says of the bench: the whole run, and the same run over parts of the input.
+-- What document 01 says of a bench session: its lines one after the other, the end of its input, the whole run; and what is shown of it.
 pub mod Lines
 pub mod Feed
 pub mod Ending
 pub mod Run
 pub mod Pieces
+pub mod Theorems

@@ -32,11 +32,11 @@ abbrev pub after : Standing → List ℕ → Standing
 after s line = record { table = lineDone s line .table; begun = true }
 
 -- "One answer line for each line"
-unfoldable pub answered : Standing → List (List ℕ) → List ℕ
-answered s [] = []
-answered s (line ∷ lines) = answerLine (lineDone s line .answer) ++ answered (after s line) lines
+unfoldable pub answersTo : Standing → List (List ℕ) → List ℕ
+answersTo s [] = []
+answersTo s (line ∷ lines) = answerLine (lineDone s line .answer) ++ answersTo (after s line) lines
 
 -- where the session stands behind the lines
-unfoldable pub stood : Standing → List (List ℕ) → Standing
-stood s [] = s
-stood s (line ∷ lines) = stood (after s line) lines
+unfoldable pub standingAfter : Standing → List (List ℕ) → Standing
+standingAfter s [] = s
+standingAfter s (line ∷ lines) = standingAfter (after s line) lines

@@ -6,5 +6,6 @@ mod pieces;
 pub use bench_lines::Standing;
 pub use bench_lines::at_start;
 pub use end::finish;
-pub use pieces::Held;
+pub use pieces::KEPT;
+pub use pieces::PieceEnd;
 pub use pieces::piece;

@@ -1,16 +1,20 @@
 // A run over the input piece by piece.
 use crate::feed::feed;
 use bench_lines::Standing;
+use lines::LONGEST;
 ghost use mathlib.Core.Path.{_≡_};
 ghost use Prim.Native.Nat.{_+_, _≤_, min};
 ghost use lib.ListN.{length, take, drop};
 ghost use Rattle.session.specs.Feed.{pieceAnswers, over};
-ghost use Rattle.session.specs.Pieces.{pieceTold, pieceLeft};
+ghost use Rattle.session.specs.Pieces.{pieceResult, pieceLeft};
+
+// The most bytes that are kept of a line that goes on in the next piece: one more than a line may have already tells that it is too long.
+pub const KEPT: usize = LONGEST + 1;
 
 // After a whole piece: how many bytes at the front of the buffer belong to a line that goes on in the next piece.
-pub struct Held {
+pub struct PieceEnd {
     pub standing: Standing,
-    pub held: usize,
+    pub kept: usize,
     pub written: usize,
 }
 
@@ -31,20 +35,20 @@ fn to_front(buffer: &mut [u8], from: usize, n: usize)
 }
 
 // Answers the ended lines of the buffer's first `end` bytes, and moves what is left unended to its front.
-pub fn piece(s: Standing, buffer: &mut [u8], end: usize, out: &mut [u8]) -> Held
-    ensures told { λ r. ⌜ r ≡ pieceTold s (length (now (out .entry))) (take end (now (buffer .entry))) ⌝ }
+pub fn piece(s: Standing, buffer: &mut [u8], end: usize, out: &mut [u8]) -> PieceEnd
+    ensures result { λ r. ⌜ r ≡ pieceResult s (length (now (out .entry))) (take end (now (buffer .entry))) ⌝ }
     ensures left { λ _. ⌜ now (buffer .exit) ≡ over (pieceLeft (length (now (out .entry))) (take end (now (buffer .entry)))) (now (buffer .entry)) ⌝ }
     ensures answers { λ _. ⌜ now (out .exit) ≡ over (pieceAnswers s (length (now (out .entry))) (take end (now (buffer .entry)))) (now (out .entry)) ⌝ }
 {
     let to = lesser(end, buffer.len());
-    let f = feed(s, &buffer[0..to], out);
-    let from = f.next;
-    let n = lesser(to - from, 129);
+    let p = feed(s, &buffer[0..to], out);
+    let from = p.next;
+    let n = lesser(to - from, KEPT);
     to_front(buffer, from, n);
-    let standing = f.standing;
-    Held {
+    let standing = p.standing;
+    PieceEnd {
         standing: standing,
-        held: n,
-        written: f.written,
+        kept: n,
+        written: p.written,
     }
 }

@@ -1,16 +1,17 @@
--- The lengths of the buffers stay, and no more is held than a turn says; the measure is the turns that are left.
+-- The lengths of the buffers stay, and no more is kept than a round says; the measure is the rounds that are left.
 use borrow.Author.Needs.{needs}
 use Prim.Native.Nat.{_≤_}
 use mathlib.Core.Path.{_≡_}
 use lib.ListN.{length}
+use Rattle.session.specs.Run.{mostKept}
 use Rattle.bench.proofs.run.Statement.{statement}
 use Rattle.bench.proofs.run.Tie as tie
 
 abbrev Inv-loop : tie.InvT-loop
-Inv-loop buffer₀ out₀ s₀ held₀ turns₀ buffer out s held turns = (held ≤ 129) × (length buffer ≡ length buffer₀) × (length out ≡ length out₀)
+Inv-loop buffer₀ out₀ s₀ kept₀ rounds₀ buffer out s kept rounds = (kept ≤ mostKept) × (length buffer ≡ length buffer₀) × (length out ≡ length out₀)
 
 abbrev μ-loop : tie.MeasureT-loop
-μ-loop buffer₀ out₀ s₀ held₀ turns₀ buffer out s held turns = turns
+μ-loop buffer₀ out₀ s₀ kept₀ rounds₀ buffer out s kept rounds = rounds
 
 at-start-requires : tie.Need-at-start-requires Inv-loop μ-loop
 at-start-requires c κs = search needs
@@ -18,8 +19,8 @@ at-start-requires c κs = search needs
 loop-holds : tie.Need-loop-holds Inv-loop μ-loop
 loop-holds c = search needs
 
-turn-of-requires : tie.Need-turn-of-requires Inv-loop μ-loop
-turn-of-requires c κs = search needs
+round-of-requires : tie.Need-round-of-requires Inv-loop μ-loop
+round-of-requires c κs = search needs
 
 same-length : tie.Need-same-length Inv-loop μ-loop
 same-length c = search needs
@@ -30,8 +31,8 @@ same-length-2 c = search needs
 returns : tie.Need-returns Inv-loop μ-loop
 returns c = search needs
 
-sub-turns : tie.Need-sub-turns Inv-loop μ-loop
-sub-turns c = search needs
+sub-rounds : tie.Need-sub-rounds Inv-loop μ-loop
+sub-rounds c = search needs
 
 loop-less : tie.Need-loop-less Inv-loop μ-loop
 loop-less c = search needs
@@ -56,11 +57,11 @@ run-spec =
     μ-loop
     at-start-requires
     loop-holds
-    turn-of-requires
+    round-of-requires
     same-length
     same-length-2
     returns
-    sub-turns
+    sub-rounds
     loop-less
     loop-again
     same-length-3

@@ -1,12 +1,21 @@
 -- Each test that fails refuses the line with its number; where none fails, the bounds decide.
 use borrow.Author.Needs.{needs}
 use native.Mathlib.Omega.{arith}
+use Prim.Native.Nat.{_≤_}
 use mathlib.Core.Path.{_∙_}
+use lib.ListN.{getD}
+use Rattle.rules.specs.Numbers.{taskRoom, queueRoom}
 use Rattle.bench_lines.proofs.Plain.{plain-short}
-use native.Mathlib.Omega.{arith}
 use Rattle.bench_lines.proofs.Configuration.{array-long, counts-small, counts-refuse, length-refuses, accepted}
 use Rattle.bench_lines.proofs.first.configured.Statement.{statement}
 use Rattle.bench_lines.proofs.first.configured.Tie as tie
+
+-- where the counts are in range, they are small
+small : (c : tie.Else1) → (getD (c .before .before .numbers-of .result) 0 0 ≤ taskRoom) × (getD (c .before .before .numbers-of .result) 2 0 ≤ queueRoom)
+small c =
+    let read = c .before .before in
+    let pre = read .before .before .pre in
+    counts-small _ _ (read .numbers-of .ensures) (pre .0) (pre .1) _ (c .before .counts-right .ensures) (c .if1 .left)
 
 numbers-of-requires : tie.Need-numbers-of-requires
 numbers-of-requires c κs = plain-short _ (c .before .pre .0)
@@ -27,37 +36,55 @@ first-refused-requires : tie.Need-first-refused-requires
 first-refused-requires c κs = search needs
 
 returns : tie.Need-returns
-returns c = (c .first-refused .ensures) ∙ counts-refuse _ _ (c .before .before .before .numbers-of .ensures) (c .before .before .before .before .before .pre .0) (c .before .before .before .before .before .pre .1) _ (c .before .before .counts-right .ensures) (c .before .if1 .taken)
+returns c =
+    let read = c .before .before .before in
+    let pre = read .before .before .pre in
+    c .first-refused .ensures
+    ∙ counts-refuse _ _ (read .numbers-of .ensures) (pre .0) (pre .1) _ (c .before .before .counts-right .ensures) (c .before .if1 .taken)
 
 cast-from : tie.Need-cast-from
 cast-from c = search needs
 
 add-from : tie.Need-add-from
-add-from c = let s = counts-small _ _ (c .before .before .numbers-of .ensures) (c .before .before .before .before .pre .0) (c .before .before .before .before .pre .1) _ (c .before .counts-right .ensures) (c .if1 .left) in record { fits = omega (arith, s .0) }
+add-from c = let s = small c in record { fits = omega arith }
 
 cast-to : tie.Need-cast-to
 cast-to c = search needs
 
 add-to : tie.Need-add-to
-add-to c = let s = counts-small _ _ (c .before .before .numbers-of .ensures) (c .before .before .before .before .pre .0) (c .before .before .before .before .pre .1) _ (c .before .counts-right .ensures) (c .if1 .left) in record { fits = omega (arith, s .0, s .1) }
+add-to c = let s = small c in record { fits = omega arith }
 
 mul-if2 : tie.Need-mul-if2
-mul-if2 c = let s = counts-small _ _ (c .before .before .numbers-of .ensures) (c .before .before .before .before .pre .0) (c .before .before .before .before .pre .1) _ (c .before .counts-right .ensures) (c .if1 .left) in record { fits = omega (arith, s .0, s .1) }
+mul-if2 c = let s = small c in record { fits = omega arith }
 
 first-refused-requires-2 : tie.Need-first-refused-requires-2
 first-refused-requires-2 c κs = search needs
 
 returns-2 : tie.Need-returns-2
-returns-2 c = (c .first-refused2 .ensures) ∙ length-refuses _ _ (c .before .before .before .before .numbers-of .ensures) (c .before .before .before .before .before .before .pre .0) (c .before .before .before .before .before .before .pre .1) _ (c .before .before .before .counts-right .ensures) (c .before .before .if1 .left) (c .before .if2 .taken)
+returns-2 c =
+    let counted = c .before .before .before in
+    let read = counted .before in
+    let pre = read .before .before .pre in
+    c .first-refused2 .ensures
+    ∙ length-refuses _ _ (read .numbers-of .ensures) (pre .0) (pre .1) _ (counted .counts-right .ensures) (c .before .before .if1 .left) (c .before .if2 .taken)
 
 slice-aggregate-fresh-from : tie.Need-slice-aggregate-fresh-from
 slice-aggregate-fresh-from c = search needs
 
 fresh-from-requires : tie.Need-fresh-from-requires
-fresh-from-requires c κs = let s = counts-small _ _ (c .before .before .before .before .numbers-of .ensures) (c .before .before .before .before .before .before .pre .0) (c .before .before .before .before .before .before .pre .1) _ (c .before .before .before .counts-right .ensures) (c .before .before .if1 .left) in let l = array-long _ _ (c .before .before .before .before .numbers-of .ensures) (c .before .before .before .before .before .before .pre .0) in (omega arith, omega arith, omega (arith, s .0, s .1, l))
+fresh-from-requires c κs =
+    let read = c .before .before .before .before in
+    let s = small (c .before .before) in
+    let l = array-long _ _ (read .numbers-of .ensures) (read .before .before .pre .0) in
+    (omega arith, omega arith, omega arith)
 
 returns-3 : tie.Need-returns-3
-returns-3 c = (c .fresh-from .ensures) ∙ accepted _ _ (c .before .before .before .before .before .numbers-of .ensures) (c .before .before .before .before .before .before .before .pre .0) (c .before .before .before .before .before .before .before .pre .1) _ (c .before .before .before .before .counts-right .ensures) (c .before .before .before .if1 .left) (c .before .before .if2 .left)
+returns-3 c =
+    let in-range = c .before .before .before in
+    let read = in-range .before .before in
+    let pre = read .before .before .pre in
+    c .fresh-from .ensures
+    ∙ accepted _ _ (read .numbers-of .ensures) (pre .0) (pre .1) _ (in-range .before .counts-right .ensures) (in-range .if1 .left) (c .before .before .if2 .left)
 
 pub configured-spec : {M : Type 1} → statement M
 configured-spec =

@@ -4,13 +4,13 @@ use Prim.Native.Nat.{_≤_, _-_, _/_}
 use mathlib.Core.Path.{_≡_}
 use lib.ListN.{length}
 use Rattle.tables.proofs.Fills.{filled}
-use Rattle.bench_lines.specs.First.{numbers}
+use Rattle.bench_lines.specs.First.{numberRoom, numbers}
 use Rattle.bench_lines.proofs.Configuration.{numbers-again, numbers-end}
 use Rattle.bench_lines.proofs.first.numbers_of.Statement.{statement}
 use Rattle.bench_lines.proofs.first.numbers_of.Tie as tie
 
 abbrev Inv-loop : tie.InvT-loop
-Inv-loop line out₀ n i₀ out i = (i ≤ length line / 2) × (out ≡ filled 64 i (numbers line))
+Inv-loop line out₀ n i₀ out i = (i ≤ length line / 2) × (out ≡ filled numberRoom i (numbers line))
 
 abbrev μ-loop : tie.MeasureT-loop
 μ-loop line out₀ n i₀ out i = length line / 2 - i
@@ -19,11 +19,23 @@ loop-holds : tie.Need-loop-holds Inv-loop μ-loop
 unfolding filled
 loop-holds c = search needs
 
-mul-byte-at : tie.Need-mul-byte-at Inv-loop μ-loop
-mul-byte-at c = search needs
+mul-two-digits-of : tie.Need-mul-two-digits-of Inv-loop μ-loop
+mul-two-digits-of c = search needs
 
-byte-at-requires : tie.Need-byte-at-requires Inv-loop μ-loop
-byte-at-requires c κs = search needs
+shared-slice-read-two-digits-of : tie.Need-shared-slice-read-two-digits-of Inv-loop μ-loop
+shared-slice-read-two-digits-of c = search needs
+
+mul-two-digits-of-2 : tie.Need-mul-two-digits-of-2 Inv-loop μ-loop
+mul-two-digits-of-2 c = search needs
+
+add-two-digits-of : tie.Need-add-two-digits-of Inv-loop μ-loop
+add-two-digits-of c = search needs
+
+shared-slice-read-two-digits-of-2 : tie.Need-shared-slice-read-two-digits-of-2 Inv-loop μ-loop
+shared-slice-read-two-digits-of-2 c = search needs
+
+two-digits-of-requires : tie.Need-two-digits-of-requires Inv-loop μ-loop
+two-digits-of-requires c κs = search needs
 
 array-write-out : tie.Need-array-write-out Inv-loop μ-loop
 array-write-out c = search needs
@@ -35,10 +47,10 @@ loop-less : tie.Need-loop-less Inv-loop μ-loop
 loop-less c = search needs
 
 loop-again : tie.Need-loop-again Inv-loop μ-loop
-loop-again c = (search needs, numbers-again _ _ _ _ (c .before .before .loop .inv .1) (c .byte-at .ensures) (search needs) (c .before .before .before .before .pre))
+loop-again c = (search needs, search (numbers-again, needs))
 
 returns : tie.Need-returns Inv-loop μ-loop
-returns c = numbers-end _ _ _ (c .before .loop .inv .1) (c .before .loop .inv .0) (search needs)
+returns c = search (numbers-end, needs)
 
 pub numbers-of-spec : {M : Type 1} → statement M
 numbers-of-spec =
@@ -47,8 +59,12 @@ numbers-of-spec =
     Inv-loop
     μ-loop
     loop-holds
-    mul-byte-at
-    byte-at-requires
+    mul-two-digits-of
+    shared-slice-read-two-digits-of
+    mul-two-digits-of-2
+    add-two-digits-of
+    shared-slice-read-two-digits-of-2
+    two-digits-of-requires
     array-write-out
     add-i
     loop-less

@@ -1,17 +1,20 @@
--- Safety alone: a piece lies within the input and fits behind what is held, and no more than 129 bytes are held.
+-- Safety alone: a piece lies within the input and fits behind what is kept, and no more than may be is kept.
 use native.Mathlib.Omega.{arith}
-use Prim.Native.Nat.{_≤_, _-_}
+use Prim.Native.Nat.{_+_, _*_, _≤_, _-_}
 use mathlib.Core.Path.{_≡_}
 use lib.ListN.{length}
-use Rattle.session.proofs.Ends.{ending-within}
+use Rattle.frames.specs.Answers.{answerLength}
+use Rattle.session.specs.Run.{mostKept}
+use Rattle.session.proofs.Ending.{ending-within}
 use Rattle.cases.proofs.feed.run.Statement.{statement}
 use Rattle.cases.proofs.feed.run.Tie as tie
 
 abbrev Inv-loop : tie.InvT-loop
-Inv-loop input size buffer₀ out₀ s₀ held₀ at₀ buffer out s held at = (at ≤ length input) × (held ≤ 129) × (length buffer ≡ 4225) × (length out ≡ 63375)
+Inv-loop input size buffer₀ out₀ s₀ kept₀ at₀ buffer out s kept at =
+    (at ≤ length input) × (kept ≤ mostKept) × (length buffer ≡ mostKept + 4096) × (length out ≡ answerLength * (mostKept + 4096))
 
 abbrev μ-loop : tie.MeasureT-loop
-μ-loop input size buffer₀ out₀ s₀ held₀ at₀ buffer out s held at = length input - at
+μ-loop input size buffer₀ out₀ s₀ kept₀ at₀ buffer out s kept at = length input - at
 
 at-start-requires : tie.Need-at-start-requires Inv-loop μ-loop
 at-start-requires c κs = omega arith
@@ -28,23 +31,23 @@ lesser-requires c κs = omega arith
 add-to : tie.Need-add-to Inv-loop μ-loop
 add-to c = omega arith
 
-sub-fed : tie.Need-sub-fed Inv-loop μ-loop
-sub-fed c = omega arith
+sub-piece-answered : tie.Need-sub-piece-answered Inv-loop μ-loop
+sub-piece-answered c = omega arith
 
-part-fed-start : tie.Need-part-fed-start Inv-loop μ-loop
-part-fed-start c = omega arith
+part-piece-answered-start : tie.Need-part-piece-answered-start Inv-loop μ-loop
+part-piece-answered-start c = omega arith
 
-part-fed-end : tie.Need-part-fed-end Inv-loop μ-loop
-part-fed-end c = omega arith
+part-piece-answered-end : tie.Need-part-piece-answered-end Inv-loop μ-loop
+part-piece-answered-end c = omega arith
 
-slice-aggregate-fed : tie.Need-slice-aggregate-fed Inv-loop μ-loop
-slice-aggregate-fed c = omega arith
+slice-aggregate-piece-answered : tie.Need-slice-aggregate-piece-answered Inv-loop μ-loop
+slice-aggregate-piece-answered c = omega arith
 
-slice-aggregate-fed-2 : tie.Need-slice-aggregate-fed-2 Inv-loop μ-loop
-slice-aggregate-fed-2 c = omega arith
+slice-aggregate-piece-answered-2 : tie.Need-slice-aggregate-piece-answered-2 Inv-loop μ-loop
+slice-aggregate-piece-answered-2 c = omega arith
 
-fed-requires : tie.Need-fed-requires Inv-loop μ-loop
-fed-requires c κs = omega arith
+piece-answered-requires : tie.Need-piece-answered-requires Inv-loop μ-loop
+piece-answered-requires c κs = omega arith
 
 loop-less : tie.Need-loop-less Inv-loop μ-loop
 loop-less c = omega arith
@@ -93,12 +96,12 @@ run-spec =
     sub-lesser
     lesser-requires
     add-to
-    sub-fed
-    part-fed-start
-    part-fed-end
-    slice-aggregate-fed
-    slice-aggregate-fed-2
-    fed-requires
+    sub-piece-answered
+    part-piece-answered-start
+    part-piece-answered-end
+    slice-aggregate-piece-answered
+    slice-aggregate-piece-answered-2
+    piece-answered-requires
     loop-less
     loop-again
     sub-finish

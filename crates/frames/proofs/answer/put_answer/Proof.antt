@@ -1,17 +1,18 @@
 -- Where there is no room nothing changes; elsewhere the line comes back filled, between what stood before it and what stood behind it.
 use borrow.Author.Needs.{needs}
+use Rattle.frames.specs.Answers.{answerLength}
 use Rattle.frames.proofs.Written.{placed-nowhere, placed-there, answer-length}
 use Rattle.frames.proofs.answer.put_answer.Statement.{statement}
 use Rattle.frames.proofs.answer.put_answer.Tie as tie
 
 returns : tie.Need-returns
-returns c = placed-nowhere _ 15 _ _ (answer-length _) (search needs)
+returns c = placed-nowhere _ answerLength _ _ (answer-length _) (search needs)
 
 sub-if2 : tie.Need-sub-if2
 sub-if2 c = search needs
 
 returns-2 : tie.Need-returns-2
-returns-2 c = placed-nowhere _ 15 _ _ (answer-length _) (search needs)
+returns-2 c = placed-nowhere _ answerLength _ _ (answer-length _) (search needs)
 
 add-end : tie.Need-add-end
 add-end c = search needs
@@ -32,7 +33,7 @@ same-length : tie.Need-same-length
 same-length c = search needs
 
 returns-3 : tie.Need-returns-3
-returns-3 c = rw (c .before .before .fill .ensures) (placed-there _ 15 _ _ (answer-length _) (search needs))
+returns-3 c = rw (c .before .before .fill .ensures) (placed-there _ answerLength _ _ (answer-length _) (search needs))
 
 pub put-answer-spec : {M : Type 1} → statement M
 put-answer-spec =

@@ -1,6 +1,6 @@
 -- The tests are the definition's, in its order.
 use borrow.Author.Needs.{needs}
-use Rattle.frames.proofs.Straight.{call-line-short, call-line-other, call-line-ended}
+use Rattle.frames.proofs.CallLine.{call-line-short, call-line-other, call-line-ended}
 use Rattle.frames.proofs.call.call_line_at.Statement.{statement}
 use Rattle.frames.proofs.call.call_line_at.Tie as tie
 

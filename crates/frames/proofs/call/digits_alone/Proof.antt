@@ -1,7 +1,7 @@
 -- The two parts together are the whole.
 use borrow.Author.Needs.{needs}
 use Rattle.digits.specs.Digits.{isDigit}
-use Rattle.frames.proofs.Straight.{every-halves}
+use Rattle.frames.proofs.CallLine.{every-halves}
 use Rattle.frames.proofs.call.digits_alone.Statement.{statement}
 use Rattle.frames.proofs.call.digits_alone.Tie as tie
 

@@ -1,3 +1,4 @@
+-- The tests are the definition's, by where the search for a line feed ends.
 use borrow.Author.Needs.{needs}
 use Rattle.lines.proofs.Search.{line-nothing, line-unended, line-too-long, line-whole}
 use Rattle.rules.proofs.Counts.{ends}
@@ -7,8 +8,8 @@ use Rattle.lines.proofs.ends.line_at.Tie as tie
 returns : tie.Need-returns
 returns c = search (line-nothing, ends)
 
-feed-from-requires : tie.Need-feed-from-requires
-feed-from-requires c κs = search needs
+line-feed-from-requires : tie.Need-line-feed-from-requires
+line-feed-from-requires c κs = search needs
 
 returns-2 : tie.Need-returns-2
 returns-2 c = search (line-unended, ends)
@@ -31,4 +32,4 @@ returns-4 c = search (line-whole, ends)
 pub line-at-spec : {M : Type 1} → statement M
 line-at-spec =
     tie.close
-    (tie.spec returns feed-from-requires returns-2 sub-if3 add-t6 returns-3 add-t4 returns-4)
+    (tie.spec returns line-feed-from-requires returns-2 sub-if3 add-t6 returns-3 add-t4 returns-4)

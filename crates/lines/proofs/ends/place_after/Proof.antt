@@ -1,3 +1,4 @@
+-- By the four kinds of line.
 use borrow.Author.Needs.{needs}
 use Rattle.lines.proofs.Places.{after-unended, after-nothing}
 use Rattle.lines.proofs.ends.place_after.Statement.{statement}

@@ -1,3 +1,4 @@
+-- Within the log its part from the place on, past its end the part from the end on, which is empty.
 use borrow.Author.Needs.{needs}
 use Rattle.lines.proofs.Places.{part-from, part-past}
 use Rattle.lines.proofs.ends.rest_at.Statement.{statement}

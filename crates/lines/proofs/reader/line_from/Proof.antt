@@ -1,4 +1,5 @@
--- `lines::reader::line_from` meets its contract: a walk of its MIR, by hand. The `Reader` that `reader_of` returns is put into a local; the local is lent to `next_line` by `&mut`, for a lifetime that is made for the call, and comes back (`Lent.antt`); the line is what `next_line` returned.
+-- `lines::reader::line_from` meets its contract: a walk of its MIR, by hand. The `Reader` that `reader_of` returns is put into a local; the local is
+-- lent to `next_line` by `&mut`, for a lifetime that is made for the call, and comes back (`Lent.antt`); the line is what `next_line` returned.
 -- All that the proof knows of `reader_of` and of `next_line` is that each meets its contract.
 -- Assumes nothing.
 use mathlib.Core.Path.{_≡_, refl, ap, _∙_}
@@ -79,7 +80,8 @@ module _ {M : Type 1} (𝓤 : URA M) (H : Heap 𝓤) (A : Atoms 𝓤) (mem : Mem
   abbrev NextLine : Contract 𝓤
   NextLine = tripleOf 𝓤 H A next-line.signature (next-line.spec 𝓤 H A mem run)
 
-module _ {M : Type 1} (𝓤 : URA M) (H : Heap 𝓤) (A : Atoms 𝓤) (W : Given 𝓤 H A) (at-mem : Memory → SProp 𝓤) (run : Routine → Fun 𝓤) (κ : Lft) (q : Share) (s : RefT (List ℕ)) (n : ℕ) (ok : n < 2 ^ 64) where
+module _ {M : Type 1} (𝓤 : URA M) (H : Heap 𝓤) (A : Atoms 𝓤) (W : Given 𝓤 H A) (at-mem : Memory → SProp 𝓤) (run : Routine → Fun 𝓤) (κ : Lft) (q : Share)
+    (s : RefT (List ℕ)) (n : ℕ) (ok : n < 2 ^ 64) where
   -- the machine value that s has
   abbrev v : Val
   v = sliceVal (s .ptr) (length (s .now))
@@ -108,7 +110,9 @@ module _ {M : Type 1} (𝓤 : URA M) (H : Heap 𝓤) (A : Atoms 𝓤) (W : Given
   goes-of =
       qed W ((‵ (flft κ q) ⊛ ‵ ftrue) ∷ ‵ (owns (ShrSlice (named 0) κ u8 ∷ usize ∷ []) (s, (n, tt)) at) ∷ []) ∵
       move ! (1 ∷ []) $ fsplit ! $ use1 W (‵ Own ⊛ ‵ Own) (shr-slice-copy 𝓤 H A W (named 0) κ u8 .twice s (v ∷ [])) $ split ! $
-      move ! (0 ∷ 2 ∷ []) $ fjoin ! $ move ! (2 ∷ 0 ∷ []) $ use2 W (raw (ReaderOf 𝓤 H A at-mem run .pre to-of)) (qed W ((‵ (flft κ q) ⊛ ‵ ftrue) ∷ ‵ (owns (ShrSlice (named 0) κ u8 ∷ usize ∷ []) (s, (n, tt)) at) ∷ []) ∵ join ! $ frame ! $ done !) $ frame ! $ done !
+      move ! (0 ∷ 2 ∷ []) $ fjoin ! $ move ! (2 ∷ 0 ∷ []) $
+      use2 W (raw (ReaderOf 𝓤 H A at-mem run .pre to-of))
+      (qed W ((‵ (flft κ q) ⊛ ‵ ftrue) ∷ ‵ (owns (ShrSlice (named 0) κ u8 ∷ usize ∷ []) (s, (n, tt)) at) ∷ []) ∵ join ! $ frame ! $ done !) $ frame ! $ done !
 
   of-said : (r : Reader) → ent 𝓤 (ensured 𝓤 H A reader-of.ended (reader-of.clauses 𝓤 H A at-mem run) (κ, tt) (s, (n, tt)) tt r) (fact 𝓤 ((r .log ≡ s) × (r .at ≡ n)))
   of-said r = exE 𝓤 _ (λ ws. snd∗ 𝓤 (sem 𝓤 H A (lasts reader-of.ended (κ, tt) (s, (n, tt)) ws)) (fact 𝓤 ((r .log ≡ s) × (r .at ≡ n))))
@@ -117,7 +121,9 @@ module _ {M : Type 1} (𝓤 : URA M) (H : Heap 𝓤) (A : Atoms 𝓤) (W : Given
   abbrev to-next : ℕ → ℕ → GName → Reader → NextLine 𝓤 H A at-mem run .Ghost
   to-next ν l δ r = (((ν ∷ κ, (κ, tt)), (PosShare·left q, (PosShare·right q, tt)), (meet-⊑-right (ν ∷ []) κ, tt), (ref 𝓤 H A W κ q l δ r, tt), (vptr l 0 ∷ [], tt)), tt)
 
-  goes-next : (ν l : ℕ) (δ : GName) (r : Reader) → ent 𝓤 (sep 𝓤 (Tokens 𝓤 H A W κ q l ν) (sem 𝓤 H A (MutRef (named 0) (ν ∷ κ) (R 𝓤 H A W κ q l) .own (ref 𝓤 H A W κ q l δ r) (vptr l 0 ∷ [])))) (NextLine 𝓤 H A at-mem run .pre (to-next ν l δ r))
+  goes-next : (ν l : ℕ) (δ : GName) (r : Reader)
+      → ent 𝓤 (sep 𝓤 (Tokens 𝓤 H A W κ q l ν) (sem 𝓤 H A (MutRef (named 0) (ν ∷ κ) (R 𝓤 H A W κ q l) .own (ref 𝓤 H A W κ q l δ r) (vptr l 0 ∷ []))))
+      (NextLine 𝓤 H A at-mem run .pre (to-next ν l δ r))
   goes-next ν l δ r =
       qed W (raw (Tokens 𝓤 H A W κ q l ν) ∷ ‵ (MutRef (named 0) (ν ∷ κ) (R 𝓤 H A W κ q l) .own (ref 𝓤 H A W κ q l δ r) (vptr l 0 ∷ [])) ∷ []) ∵
       nothing ! $ move ! (2 ∷ 0 ∷ []) $ fjoin ! $ move ! (1 ∷ 0 ∷ []) $ join ! $ frame ! $ done !
@@ -130,17 +136,22 @@ module _ {M : Type 1} (𝓤 : URA M) (H : Heap 𝓤) (A : Atoms 𝓤) (W : Given
   exits l u e =
       qed W (‵ (S.the-row .own l (u ∷ [])) ∷ ‵ (flft κ q) ∷ ‵ Own ∷ []) ∵
       suffices ! _ (ends-at 𝓤 H A line-from.ended stayed (line-from.clauses 𝓤 H A at-mem run) W (((κ, tt), (q, tt), tt, (s, (n, tt)), at), tt) u l (tt, (tt, tt)) (tt, (tt, tt))) $ says ! e $
-      nothing ! $ move ! (2 ∷ 0 ∷ []) $ join ! $ frame ! $ nothing ! $ owned ! usize (Is usize) (uint-makes 𝓤 H A W w64) n _ (refl, ok) $ fjoin ! $ move ! (2 ∷ 0 ∷ []) $ fjoin ! $ frame ! $ done !
+      nothing ! $ move ! (2 ∷ 0 ∷ []) $ join ! $ frame ! $ nothing ! $ owned ! usize (Is usize) (uint-makes 𝓤 H A W w64) n _ (refl, ok) $ fjoin ! $
+      move ! (2 ∷ 0 ∷ []) $ fjoin ! $ frame ! $ done !
 
-  module _ (C : Calls 𝓤 H) (Λ : Loops 𝓤 H) (fm : FmC 𝓤 H (W .laws) C) (known-of : Triple 𝓤 (C #lines·reader·reader-of) (ReaderOf 𝓤 H A at-mem run)) (known-next : Triple 𝓤 (C #lines·reader·next-line) (NextLine 𝓤 H A at-mem run)) where
+  module _ (C : Calls 𝓤 H) (Λ : Loops 𝓤 H) (fm : FmC 𝓤 H (W .laws) C) (known-of : Triple 𝓤 (C #lines·reader·reader-of) (ReaderOf 𝓤 H A at-mem run))
+      (known-next : Triple 𝓤 (C #lines·reader·next-line) (NextLine 𝓤 H A at-mem run)) where
     walk : Is (ShrSlice (named 0) κ u8) s (v ∷ []) → ent 𝓤 (onEntry 𝓤 H A line-from.signature (κ, tt) (q, tt) (s, (n, tt)) at) (WpFn 𝓤 H C Λ code.function (v ∷ vint w64 n ∷ []) Post)
     walk p =
         qed W (raw (onEntry 𝓤 H A line-from.signature (κ, tt) (q, tt) (s, (n, tt)) at) ∷ []) ∵ enter ! C Λ code.function (v ∷ vint w64 n ∷ []) _ $
-        alloc1 ! (λ l₀. alloc1 ! (λ l₁. alloc1 ! (λ l₂. alloc1 ! (λ l₃. alloc1 ! (λ l₄. alloc1 ! (λ l₅. alloc0 ! $ params1 ! $ pass1 ! (init ! 8 refl (shr-slice-lawful 𝓤 H A W (named 0) κ u8 .typed s (v ∷ []) p .0)) $ pass1 ! (init ! 6 refl (tt, record { fits = ok })) $ pass0 ! $
+        alloc1 ! (λ l₀. alloc1 ! (λ l₁. alloc1 ! (λ l₂. alloc1 ! (λ l₃. alloc1 ! (λ l₄. alloc1 ! (λ l₅. alloc0 ! $ params1 ! $
+        pass1 ! (init ! 8 refl (shr-slice-lawful 𝓤 H A W (named 0) κ u8 .typed s (v ∷ []) p .0)) $ pass1 ! (init ! 6 refl (tt, record { fits = ok })) $ pass0 ! $
         -- `reader_of` is called
         move ! (12 ∷ []) $ use1 W (raw (ReaderOf 𝓤 H A at-mem run .pre to-of) ⊛ ‵ Own) goes-of $ split ! $
-        calls-at ! fm (ReaderOf 𝓤 H A at-mem run) known-of to-of (and-then ! (load ! (from ! (stop !)) (look ! 10 refl)) (and-then ! (load ! (from ! (stop !)) (look ! 8 refl)) (no-more !))) (λ u.
-        use1 W (later (some (λ (r : Reader). ((‵ (flft κ q) ⊛ ‵ ftrue) ⊛ ‵ (B (κ, tt) .own r (u ∷ []))) ⊛ raw (ensured 𝓤 H A reader-of.ended (reader-of.clauses 𝓤 H A at-mem run) (κ, tt) (s, (n, tt)) tt r)))) (id⊢ 𝓤 _) $ await ! tt $ pick ! (λ r.
+        calls-at ! fm (ReaderOf 𝓤 H A at-mem run) known-of to-of
+        (and-then ! (load ! (from ! (stop !)) (look ! 10 refl)) (and-then ! (load ! (from ! (stop !)) (look ! 8 refl)) (no-more !))) (λ u.
+        use1 W (later (some (λ (r : Reader). ((‵ (flft κ q) ⊛ ‵ ftrue) ⊛ ‵ (B (κ, tt) .own r (u ∷ []))) ⊛ raw
+        (ensured 𝓤 H A reader-of.ended (reader-of.clauses 𝓤 H A at-mem run) (κ, tt) (s, (n, tt)) tt r)))) (id⊢ 𝓤 _) $ await ! tt $ pick ! (λ r.
         split ! $ move ! (1 ∷ []) $ use1 W (raw (fact 𝓤 ((r .log ≡ s) × (r .at ≡ n)))) (of-said r) $ heard ! ((r .log ≡ s) × (r .at ≡ n)) (λ e. split ! $ move ! (1 ∷ []) $
         -- [what the Reader owns; the token; what s owns; room for _5; …; room for _4; …; room for _3; …; _2; …; _1; …; room for _0; …]
         peeks ! (B (κ, tt)) (Is (B (κ, tt))) (shows 𝓤 H A (B (κ, tt))) r (u ∷ []) (λ is.
@@ -149,33 +160,46 @@ module _ {M : Type 1} (𝓤 : URA M) (H : Heap 𝓤) (A : Atoms 𝓤) (W : Given
         assigns ! (addr ! (from ! (stop !))) (from ! (stop !)) (init ! 3 refl (tt, tt)) $
         -- the local is lent for a new lifetime ν, within κ
         move ! (7 ∷ 0 ∷ []) $ use2 W (‵ (mem (R 𝓤 H A W κ q l₃) .lies r l₃ 0)) (lies-in 𝓤 H A W κ q l₃ r u) $ move ! (1 ∷ []) $ split ! $ lft-new ! tt (λ ν. move ! (0 ∷ 1 ∷ 3 ∷ []) $
-        use3 W (later (some (λ (δ : GName). raw (Tokens 𝓤 H A W κ q l₃ ν) ⊛ (‵ (MutRef (named 0) (ν ∷ κ) (R 𝓤 H A W κ q l₃) .own (ref 𝓤 H A W κ q l₃ δ r) (vptr l₃ 0 ∷ [])) ⊛ raw (Kept 𝓤 H A W κ q l₃ ν δ))))) (lends 𝓤 H A W κ q l₃ ν r) $ await ! tt $ pick ! (λ δ.
+        use3 W (later (some (λ (δ : GName). raw (Tokens 𝓤 H A W κ q l₃ ν) ⊛
+        (‵ (MutRef (named 0) (ν ∷ κ) (R 𝓤 H A W κ q l₃) .own (ref 𝓤 H A W κ q l₃ δ r) (vptr l₃ 0 ∷ [])) ⊛ raw (Kept 𝓤 H A W κ q l₃ ν δ)))))
+        (lends 𝓤 H A W κ q l₃ ν r) $ await ! tt $ pick ! (λ δ.
         split ! $ move ! (1 ∷ []) $ split ! $ move ! (2 ∷ 0 ∷ []) $ use2 W (raw (NextLine 𝓤 H A at-mem run .pre (to-next ν l₃ δ r))) (goes-next ν l₃ δ r) $
         -- `next_line` is called: [what it asks; what the lender keeps; true; what s owns; _5; …; _4; …; …; _2; …; _1; …; room for _0; …]
         calls-at ! fm (NextLine 𝓤 H A at-mem run) known-next (to-next ν l₃ δ r) (and-then ! (load ! (from ! (stop !)) (look ! 4 refl)) (no-more !)) (λ u′.
-        use1 W (later (some (λ (l : Line). (raw (Tokens 𝓤 H A W κ q l₃ ν) ⊛ ‵ (S.the-row .own l (u′ ∷ []))) ⊛ raw (ensured 𝓤 H A next-line.ended (next-line.clauses 𝓤 H A at-mem run) (ν ∷ κ, (κ, tt)) (ref 𝓤 H A W κ q l₃ δ r, tt) tt l)))) (id⊢ 𝓤 _) $ await ! tt $ pick ! (λ l.
-        split ! $ move ! (1 ∷ []) $ use1 W (some (λ (ws : Reader × Unit {0}). ‵ (lasts next-line.ended (ν ∷ κ, (κ, tt)) (ref 𝓤 H A W κ q l₃ δ r, tt) ws) ⊛ raw (fact 𝓤 (Said r l (ws .0))))) (id⊢ 𝓤 _) $ pick ! (λ ws.
+        use1 W (later (some (λ (l : Line). (raw (Tokens 𝓤 H A W κ q l₃ ν) ⊛ ‵ (S.the-row .own l (u′ ∷ []))) ⊛ raw
+        (ensured 𝓤 H A next-line.ended (next-line.clauses 𝓤 H A at-mem run) (ν ∷ κ, (κ, tt)) (ref 𝓤 H A W κ q l₃ δ r, tt) tt l)))) (id⊢ 𝓤 _) $ await ! tt $ pick ! (λ l.
+        split ! $ move ! (1 ∷ []) $
+        use1 W (some (λ (ws : Reader × Unit {0}). ‵ (lasts next-line.ended (ν ∷ κ, (κ, tt)) (ref 𝓤 H A W κ q l₃ δ r, tt) ws) ⊛ raw (fact 𝓤 (Said r l (ws .0))))) (id⊢ 𝓤 _) $ pick ! (λ ws.
         split ! $ move ! (1 ∷ []) $ heard ! (Said r l (ws .0)) (λ e′. fsplit ! $ move ! (2 ∷ []) $ split ! $
         -- [the tokens; what the line owns; the last value; true; what the lender keeps; …]: the lifetime is ended, and the local comes back
-        move ! (0 ∷ 4 ∷ 2 ∷ []) $ use3 W (later (‵ (flft κ q) ⊛ (‵ (Cell 𝓤 H A W κ q l₃ (T′.lowered (ws .0))) ⊛ ‵ (R 𝓤 H A W κ q l₃ .own (ws .0) (T′.lowered (ws .0) ∷ []))))) (comes-back 𝓤 H A W κ q l₃ ν δ (ws .0)) $ await ! tt $
+        move ! (0 ∷ 4 ∷ 2 ∷ []) $
+        use3 W (later (‵ (flft κ q) ⊛ (‵ (Cell 𝓤 H A W κ q l₃ (T′.lowered (ws .0))) ⊛ ‵ (R 𝓤 H A W κ q l₃ .own (ws .0) (T′.lowered (ws .0) ∷ [])))))
+        (comes-back 𝓤 H A W κ q l₃ ν δ (ws .0)) $ await ! tt $
         split ! $ move ! (1 ∷ []) $ split ! $ move ! (3 ∷ []) $
         -- [what the line owns; _3; what the Reader owns; the token; true; true; what s owns; _5; …; _4; …; …; _2; …; _1; …; room for _0; …]
         peeks ! S.the-row (Is S.the-row) (shows 𝓤 H A S.the-row) l (u′ ∷ []) (λ is′.
         land ! (from ! (stop !)) (init ! 16 refl (EL.lawful S.the-type S′.the-laws 𝓤 H A W tt .typed l _ is′ .0)) $
         returns ! (look ! 16 refl) $ forget ! 1 refl $ forget ! 7 refl $ forget ! 9 refl $ forget ! 12 refl $ forget ! 14 refl $ forget ! 16 refl $
-        move ! (16 ∷ 17 ∷ []) $ free1 ! $ move ! (14 ∷ 15 ∷ []) $ free1 ! $ move ! (12 ∷ 13 ∷ []) $ free1 ! $ move ! (1 ∷ 11 ∷ []) $ free1 ! $ move ! (8 ∷ 9 ∷ []) $ free1 ! $ move ! (6 ∷ 7 ∷ []) $ free1 ! $ free0 ! $
+        move ! (16 ∷ 17 ∷ []) $ free1 ! $ move ! (14 ∷ 15 ∷ []) $ free1 ! $ move ! (12 ∷ 13 ∷ []) $ free1 ! $ move ! (1 ∷ 11 ∷ []) $ free1 ! $
+        move ! (8 ∷ 9 ∷ []) $ free1 ! $ move ! (6 ∷ 7 ∷ []) $ free1 ! $ free0 ! $
         keep ! (0 ∷ 2 ∷ 5 ∷ []) $ by ! (exits l u′ (e′ .0 ∙ (ap (λ (x : RefT (List ℕ)). lineAt (now x) (r .at)) (e .0) ∙ ap (lineAt (now s)) (e .1)))))))))))))))))))))
 
 module _ {M : Type 1} (𝓤 : URA M) (H : Heap 𝓤) (A : Atoms 𝓤) (W : Given 𝓤 H A) (mem : Memory → SProp 𝓤) (run : Routine → Fun 𝓤) where
-  line-from-walks : (C : Calls 𝓤 H) (Λ : Loops 𝓤 H) → FmC 𝓤 H (W .laws) C → Triple 𝓤 (C #lines·reader·reader-of) (ReaderOf 𝓤 H A mem run) → Triple 𝓤 (C #lines·reader·next-line) (NextLine 𝓤 H A mem run)
+  line-from-walks : (C : Calls 𝓤 H) (Λ : Loops 𝓤 H) → FmC 𝓤 H (W .laws) C → Triple 𝓤 (C #lines·reader·reader-of) (ReaderOf 𝓤 H A mem run)
+      → Triple 𝓤 (C #lines·reader·next-line) (NextLine 𝓤 H A mem run)
       → Walks 𝓤 H A line-from.ended stayed (WpFn 𝓤 H C Λ code.function) (line-from.clauses 𝓤 H A mem run)
-  line-from-walks C Λ fm known-of known-next = walked 𝓤 H A line-from.ended stayed (line-from.clauses 𝓤 H A mem run) (WpFn 𝓤 H C Λ code.function) (λ κs. (slice-vals, (uint-vals w64, tt))) (λ κs. (shr-slice-tells (named 0) (κs .0) u8, (uint-tells w64, tt)))
+  line-from-walks C Λ fm known-of known-next =
+      walked 𝓤 H A line-from.ended stayed (line-from.clauses 𝓤 H A mem run) (WpFn 𝓤 H C Λ code.function) (λ κs. (slice-vals, (uint-vals w64, tt)))
+      (λ κs. (shr-slice-tells (named 0) (κs .0) u8, (uint-tells w64, tt)))
       (λ κs qs bounds a g are. via 𝓤 _ (fst∗ 𝓤 _ (emp 𝓤)) (walk 𝓤 H A W mem run (κs .0) (qs .0) (a .0) (a .1 .0) (are .1 .0 .1) C Λ fm known-of known-next (are .0)))
 
 line-from-meets : {M : Type 1} (𝓤 : URA M) (H : Heap 𝓤) (A : Atoms 𝓤) (W : Given 𝓤 H A) (mem : Memory → SProp 𝓤) (run : Routine → Fun 𝓤) (𝓣 : Tables 𝓤 H)
     → Triple 𝓤 (𝓣 .C #lines·reader·reader-of) (ReaderOf 𝓤 H A mem run) → Triple 𝓤 (𝓣 .C #lines·reader·next-line) (NextLine 𝓤 H A mem run)
     → Meets 𝓤 H A line-from.signature (WpFn 𝓤 H (𝓣 .C) (𝓣 .Λ) code.function) (line-from.spec 𝓤 H A mem run)
-line-from-meets 𝓤 H A W mem run 𝓣 known-of known-next = walk-meets 𝓤 H A line-from.ended stayed W (goes-none-slice 𝓤 H A W 1 (0 ∷ []) tt (plain (λ _. u8)) yes, (goes-none 𝓤 H A W 1 (λ _. usize) yes (λ κs x f. refl), tt)) (line-from.clauses 𝓤 H A mem run) (WpFn 𝓤 H (𝓣 .C) (𝓣 .Λ) code.function) (WpFn-mono 𝓤 H (W .laws) 𝓣 code.function)
+line-from-meets 𝓤 H A W mem run 𝓣 known-of known-next =
+    walk-meets 𝓤 H A line-from.ended stayed W
+    (goes-none-slice 𝓤 H A W 1 (0 ∷ []) tt (plain (λ _. u8)) yes, (goes-none 𝓤 H A W 1 (λ _. usize) yes (λ κs x f. refl), tt)) (line-from.clauses 𝓤 H A mem run)
+    (WpFn 𝓤 H (𝓣 .C) (𝓣 .Λ) code.function) (WpFn-mono 𝓤 H (W .laws) 𝓣 code.function)
     (line-from-walks 𝓤 H A W mem run (𝓣 .C) (𝓣 .Λ) (fmOf 𝓤 H (W .laws) 𝓣) known-of known-next)
 
 pub line-from-spec : {M : Type 1} → stated.statement M

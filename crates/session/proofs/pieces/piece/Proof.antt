@@ -1,6 +1,6 @@
 -- The lines end within the piece, and what they leave is moved to the front.
 use borrow.Author.Needs.{needs}
-use Rattle.session.proofs.Buffers.{next-within, answers-there, front-fits, left-moved, held-told}
+use Rattle.session.proofs.Buffers.{next-within, answers-there, front-fits, left-moved, piece-result}
 use Rattle.session.proofs.pieces.piece.Statement.{statement}
 use Rattle.session.proofs.pieces.piece.Tie as tie
 
@@ -20,13 +20,18 @@ feed-requires : tie.Need-feed-requires
 feed-requires c κs = search needs
 
 sub-lesser : tie.Need-sub-lesser
-sub-lesser c = next-within _ _ _ _ _ (c .before .before .before .before .before .before .lesser .ensures) _ (c .before .before .feed .ensures .0)
+sub-lesser c =
+    let lines = c .before .before in
+    next-within _ _ _ _ _ (lines .before .before .before .before .lesser .ensures) _ (lines .feed .ensures .0)
 
 lesser-requires-2 : tie.Need-lesser-requires-2
 lesser-requires-2 c κs = search needs
 
 to-front-requires : tie.Need-to-front-requires
-to-front-requires c κs = let w = front-fits _ _ _ _ _ (c .before .before .before .before .before .before .before .before .lesser .ensures) _ (c .before .before .before .before .feed .ensures .0) _ (c .before .lesser2 .ensures) in search needs
+to-front-requires c κs =
+    let lines = c .before .before .before .before in
+    let w = front-fits _ _ _ _ _ (lines .before .before .before .before .lesser .ensures) _ (lines .feed .ensures .0) _ (c .before .lesser2 .ensures) in
+    search needs
 
 same-length : tie.Need-same-length
 same-length c = search needs
@@ -35,7 +40,15 @@ same-length-2 : tie.Need-same-length-2
 same-length-2 c = search needs
 
 returns : tie.Need-returns
-returns c = (held-told _ _ _ _ _ (c .before .before .before .before .before .before .before .before .before .before .before .before .lesser .ensures) _ (c .before .before .before .before .before .before .before .before .feed .ensures .0) _ (c .before .before .before .before .before .lesser2 .ensures), (left-moved _ _ _ _ _ (c .before .before .before .before .before .before .before .before .before .before .before .before .lesser .ensures) _ (c .before .before .before .before .before .before .before .before .feed .ensures .0) _ (c .before .before .before .before .before .lesser2 .ensures) _ (c .before .before .before .to-front .ensures), answers-there _ _ _ _ _ (c .before .before .before .before .before .before .before .before .before .before .before .before .lesser .ensures) _ (c .before .before .before .before .before .before .before .before .feed .ensures .0) _ _ (c .before .before .before .before .before .before .before .before .feed .ensures .1)))
+returns c =
+    let moved = c .before .before .before in
+    let kept = moved .before .before .lesser2 .ensures in
+    let lines = moved .before .before .before .before .before in
+    let to = lines .before .before .before .before .lesser .ensures in
+    let came = lines .feed .ensures .0 in (
+      piece-result _ _ _ _ _ to _ came _ kept,
+      (left-moved _ _ _ _ _ to _ came _ kept _ (moved .to-front .ensures), answers-there _ _ _ _ _ to _ came _ _ (lines .feed .ensures .1)),
+    )
 
 pub piece-spec : {M : Type 1} → statement M
 piece-spec =

@@ -1,4 +1,4 @@
--- The places passed hold what stood further on; those ahead are as they were.
+-- The places passed hold what standingAfter further on; those ahead are as they were.
 use borrow.Author.Needs.{needs}
 use Prim.Native.Nat.{_≤_, _-_}
 use mathlib.Core.Path.{_≡_}

@@ -1,0 +1,23 @@
+-- What is shown of a bench session: the input may be cut anywhere.
+use Prim.Native.Nat.{ℕ, _*_, _≤_}
+use mathlib.Core.Path.{_≡_}
+use mathlib.Core.List.{List, [], _∷_, _++_}
+use lib.ListN.{length}
+use Rattle.frames.specs.Answers.{answerLength}
+use Rattle.bench_lines.specs.declared.start.Standing.{Standing}
+use Rattle.bench_lines.specs.Start.{start}
+use Rattle.session.specs.Feed.{pieceAnswers}
+use Rattle.session.specs.Run.{run, joined, runParts}
+use Rattle.session.specs.Pieces.{pieceLeft, pieceResult}
+
+-- however the input is cut into parts, the run over the parts writes the same bytes as the run over the whole
+abbrev pub PartsAgree : Type 0
+PartsAgree = (parts : List (List ℕ)) → runParts start [] parts ≡ run (joined parts)
+
+-- and the program runs over parts: where there is room for an answer to every byte, `piece` writes the answers of the next part, and leaves
+-- the session and the bytes in front of the part behind it as that run has them
+abbrev pub PieceIsPart : Type 0
+PieceIsPart =
+    (s : Standing) (room : ℕ) (front part : List ℕ) (parts : List (List ℕ)) → answerLength * length (front ++ part) ≤ room
+    → runParts s front (part ∷ parts)
+    ≡ pieceAnswers s room (front ++ part) ++ runParts (pieceResult s room (front ++ part) .standing) (pieceLeft room (front ++ part)) parts
