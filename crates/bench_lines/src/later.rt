@@ -1,6 +1,6 @@
 // A line behind the first: what it asks for, where the next one begins, and what it does to a table whose store is lent.
 use crate::start::malformed_answer;
-use calls::call_told;
+use calls::call_assuming;
 use frames::CALL_LINE;
 use frames::Request;
 use frames::request_at;
@@ -12,9 +12,9 @@ use tables::FrontDone;
 ghost use mathlib.Core.Path.{_≡_};
 ghost use lib.ListN.{length};
 ghost use Rattle.rules.specs.Numbers.{storeSize};
-ghost use Rattle.tables.specs.Fronts.{whole, frontDone};
+ghost use Rattle.tables.specs.Fronts.{whole};
 ghost use Rattle.bench_lines.specs.Places.{nextPlace, laterLineAt};
-ghost use Rattle.bench_lines.specs.Assuming.{requestAssuming};
+ghost use Rattle.bench_lines.specs.Assuming.{LineAssuming};
 
 // What a line asks for. `next` is 0 where no line is ended there: behind a line there is at least its line feed.
 pub struct LaterLine {
@@ -56,7 +56,7 @@ pub fn later_line_at(input: &[u8], at: usize) -> LaterLine
 }
 
 // What a line does that asks for `r`, where `valid` says whether the table is valid: a piece of the input looks at the table once, since no
-// line changes that. The law `request-assuming` says that where `valid` is right, this is what the line does.
+// line changes that. Where `valid` is right this is what the line asks for; where it isn't, what comes out is of no use.
 pub fn line_assuming(
     f: Front,
     valid: bool,
@@ -66,13 +66,11 @@ pub fn line_assuming(
 ) -> FrontDone
     requires { ⌜ length (now element) ≡ storeSize ⌝ }
     requires { ⌜ length (now criterion) ≡ storeSize ⌝ }
-    ensures front { λ d. ⌜ d ≡ frontDone (requestAssuming valid (whole f (now (element .entry)) (now (criterion .entry))) r) ⌝ }
-    ensures elements { λ _. ⌜ now (element .exit) ≡ requestAssuming valid (whole f (now (element .entry)) (now (criterion .entry))) r .table .element ⌝ }
-    ensures criteria { λ _. ⌜ now (criterion .exit) ≡ requestAssuming valid (whole f (now (element .entry)) (now (criterion .entry))) r .table .criterion ⌝ }
+    ensures { λ d. ⌜ LineAssuming valid (whole f (now (element .entry)) (now (criterion .entry))) r d (now (element .exit)) (now (criterion .exit)) ⌝ }
 {
     if r.good {
         let k = r.call;
-        return call_told(f, valid, k, element, criterion);
+        return call_assuming(f, valid, k, element, criterion);
     }
     FrontDone {
         front: f,

@@ -27,6 +27,7 @@ use Rattle.bench_lines.specs.declared.start.Standing.{Standing}
 use Rattle.bench_lines.specs.declared.later.LaterLine.{LaterLine}
 use Rattle.bench_lines.specs.Start.{standing}
 use Rattle.bench_lines.specs.Steps.{malformed, lineDone, requestDone}
+use Rattle.bench_lines.specs.Assuming.{IsDone}
 use Rattle.bench_lines.specs.Places.{firstLineAt, laterLineAt}
 use Rattle.bench_lines.proofs.Assuming.{still-known}
 use Rattle.session.specs.declared.feed.Progress.{Progress}
@@ -254,9 +255,7 @@ request-long t r l = go (r .good) refl
 
 -- d, es′ and cs′ are what the line with the request r did to it
 abbrev pub Did : Front → List ℕ → List ℕ → Request → FrontDone → List ℕ → List ℕ → Type 0
-Did f es cs r d es′ cs′ =
-    (d ≡ frontDone (requestDone (whole f es cs) r))
-    × ((es′ ≡ requestDone (whole f es cs) r .table .element) × (cs′ ≡ requestDone (whole f es cs) r .table .criterion))
+Did f es cs = IsDone (whole f es cs)
 
 module _ {f : Front} {es cs : List ℕ} (r : Request) {d : FrontDone} {es′ cs′ : List ℕ} (did : Did f es cs r d es′ cs′) where
   pub known-after : {known : Bool} → Known known f es cs → Known known (d .front) es′ cs′

@@ -9,7 +9,6 @@ use Rattle.rules.specs.Numbers.{storeSize}
 use Rattle.tables.specs.Fronts.{whole}
 use Rattle.frames.specs.Answers.{answerLength}
 use Rattle.bench_lines.specs.Start.{standing}
-use Rattle.bench_lines.proofs.Assuming.{request-parts}
 use Rattle.session.specs.Feed.{progressOf}
 use Rattle.session.proofs.PieceLoop.{GoingFrom, Known, going-from, going-lent, known-after, whole-again, ahead-no-room, later-no-line, later-progress, later-written}
 use Rattle.session.proofs.feed.feed_later.Statement.{statement}
@@ -94,7 +93,7 @@ loop-again c =
     let read = ended .before in
     let test = read .before in
     let at = test .before in
-    let did = request-parts _ _ _ (at .loop .inv .1 .right) (called .line-assuming .ensures) in (
+    let did = called .line-assuming .ensures (at .loop .inv .1 .right) in (
       going-lent (at .loop .inv .0) _ (read .later-line-at .ensures) (ended .if1 .left) (test .loop-test .taken) did _ (put .put-answer .ensures),
       known-after _ did (at .loop .inv .1),
     )
