@@ -29,7 +29,7 @@ record Alike (block : List ℕ) (xs : List Happening) : Type 0 where
 -- what comes from outside sends no element
 no-element : (o : Outer) → outerCall o .operation ≡ SEND → outerCall o .b < wordEnd
 no-element (signal s) e = absurd (omega arith)
-no-element tick e = omega arith
+no-element (tick n) e = omega arith
 
 first-alike : (block : List ℕ) → areBytes block ≡ true → isTable block ≡ true → (o : Outer) → statusFirst block o ≡ tableFirst (unpacked block) o
 first-alike block small is o = ap (λ r. r .status) (call-answered block (outerCall o) small is)

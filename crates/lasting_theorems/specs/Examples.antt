@@ -23,7 +23,10 @@ abbrev pub by : ℕ → ℕ → ℕ → ℕ → ℕ → Call
 by caller operation a b c = record { caller = caller; operation = operation; a = a; b = b; c = c }
 
 abbrev pub event : ℕ → ℕ → Outer
-event e i = signal (record { event = e; task = i })
+event e i = signal (record { event = e; task = i; unread-c = 0 })
+
+abbrev pub aTick : Outer
+aTick = tick (record { unread-a = 0; unread-b = 0; unread-c = 0 })
 
 -- ---- two signals and two calls, arranged in two ways: the same end
 
@@ -51,10 +54,10 @@ abbrev pub counting : Table
 counting = step (withTimers 4294967295 (begun .timers) begun) (by 0 ARM 5 3 2) .table
 
 abbrev pub ticksFirst : List Happening
-ticksFirst = outside tick ∷ outside tick ∷ own (by 0 ENTER 0 0 0) ∷ outside (event 1 0) ∷ own (by 0 SEND 0 7 3) ∷ []
+ticksFirst = outside aTick ∷ outside aTick ∷ own (by 0 ENTER 0 0 0) ∷ outside (event 1 0) ∷ own (by 0 SEND 0 7 3) ∷ []
 
 abbrev pub ticksLater : List Happening
-ticksLater = own (by 0 ENTER 0 0 0) ∷ outside (event 1 0) ∷ outside tick ∷ own (by 0 SEND 0 7 3) ∷ outside tick ∷ []
+ticksLater = own (by 0 ENTER 0 0 0) ∷ outside (event 1 0) ∷ outside aTick ∷ own (by 0 SEND 0 7 3) ∷ outside aTick ∷ []
 
 abbrev pub SameEndTicking : Type 0
 SameEndTicking =
@@ -91,13 +94,13 @@ NotFree =
 
 abbrev pub NotPastArm : Type 0
 NotPastArm =
-    taskOf (run begun (own (by 0 ARM 0 0 1) ∷ outside tick ∷ [])) 0 .arrived
-    ≢ taskOf (run begun (outside tick ∷ own (by 0 ARM 0 0 1) ∷ [])) 0 .arrived
+    taskOf (run begun (own (by 0 ARM 0 0 1) ∷ outside aTick ∷ [])) 0 .arrived
+    ≢ taskOf (run begun (outside aTick ∷ own (by 0 ARM 0 0 1) ∷ [])) 0 .arrived
 
 abbrev pub NotPastDisarm : Type 0
 NotPastDisarm =
-    taskOf (run begun (own (by 0 ARM 0 0 1) ∷ own (by 0 DISARM 0 0 0) ∷ outside tick ∷ [])) 0 .arrived
-    ≢ taskOf (run begun (own (by 0 ARM 0 0 1) ∷ outside tick ∷ own (by 0 DISARM 0 0 0) ∷ [])) 0 .arrived
+    taskOf (run begun (own (by 0 ARM 0 0 1) ∷ own (by 0 DISARM 0 0 0) ∷ outside aTick ∷ [])) 0 .arrived
+    ≢ taskOf (run begun (own (by 0 ARM 0 0 1) ∷ outside aTick ∷ own (by 0 DISARM 0 0 0) ∷ [])) 0 .arrived
 
 -- ---- programs that satisfy demand 3 alone, and do not meet the step
 

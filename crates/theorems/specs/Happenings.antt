@@ -13,21 +13,28 @@ use Rattle.exclusion.specs.Marks.{passesSignal}
 
 -- ---- what happens: signals and ticks from outside, and calls of the tasks
 
+-- a SIGNAL lists a and b, a TICK nothing: the other numbers "are not read", and may be any
 pub record Signal : Type 0 where
   pub event : ℕ
   pub task : ℕ
+  pub unread-c : ℕ
+
+pub record Tick : Type 0 where
+  pub unread-a : ℕ
+  pub unread-b : ℕ
+  pub unread-c : ℕ
 
 pub data Outer : Type 0 where
   signal : Signal → Outer
-  tick : Outer
+  tick : Tick → Outer
 
 pub data Happening : Type 0 where
   outside : Outer → Happening
   own : Call → Happening
 
 abbrev pub outerCall : Outer → Call
-outerCall (signal s) = record { caller = outsideNumber; operation = SIGNAL; a = s .event; b = s .task; c = 0 }
-outerCall tick = record { caller = outsideNumber; operation = TICK; a = 0; b = 0; c = 0 }
+outerCall (signal s) = record { caller = outsideNumber; operation = SIGNAL; a = s .event; b = s .task; c = s .unread-c }
+outerCall (tick n) = record { caller = outsideNumber; operation = TICK; a = n .unread-a; b = n .unread-b; c = n .unread-c }
 
 abbrev pub callOf : Happening → Call
 callOf (outside o) = outerCall o
@@ -114,4 +121,4 @@ Demand3Damaged = (t : Table) (xs ys : List Happening) → valid t ≡ false → 
 
 -- a tick that comes first is accepted
 abbrev pub TickAccepted : Type 0
-TickAccepted = (t : Table) → valid t ≡ true → statusFirst t tick ≡ 0
+TickAccepted = (t : Table) (n : Tick) → valid t ≡ true → statusFirst t (tick n) ≡ 0
