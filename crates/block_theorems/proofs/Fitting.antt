@@ -22,7 +22,9 @@ use Rattle.rules.proofs.Lists.{every-cons, every-nil}
 use Rattle.rules.proofs.Counts.{below-at}
 use Rattle.theorems.proofs.ArmedTimers.{every-kept}
 use Rattle.rules.specs.Checks.{rowZero, rowFits, tasksRight, regionFits, regionsRight, boundFits, queueRight, queuesRight}
-use Rattle.rules.proofs.Validity.{row-given, Parts, held-fits, elected-below, entries-fit}
+use Rattle.rules.proofs.Rules.{Parts}
+use Rattle.rules.proofs.ValidTasks.{row-given, elected-below}
+use Rattle.rules.proofs.ValidRegions.{held-fits, entries-fit}
 use Rattle.rules.proofs.Entries.{entries-most}
 use Rattle.packing.proofs.RoundTrips.{fits, timerFits}
 use Rattle.block_theorems.specs.Ranges.{elementsInRange}

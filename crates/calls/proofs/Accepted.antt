@@ -25,7 +25,10 @@ use Rattle.rules.specs.Validity.{countsInRange}
 use Rattle.rules.specs.Refusals.{missing, wrongState}
 use Rattle.rules.specs.Effects.{Effect, plain, effect}
 use Rattle.rules.proofs.Bools.{given, or-left, or-right}
-use Rattle.rules.proofs.Validity.{Parts, parts-of, elected-ready, elected-below, entries-fit}
+use Rattle.rules.proofs.Rules.{Parts}
+use Rattle.rules.proofs.ValidTasks.{elected-ready, elected-below}
+use Rattle.rules.proofs.ValidRegions.{entries-fit}
+use Rattle.rules.proofs.Validity.{parts-of}
 use Rattle.rules.proofs.Refusals.{Accepted}
 use Rattle.rules.proofs.Entries.{entries-most}
 use Rattle.rules.proofs.Lists.{altered-set}

@@ -21,7 +21,9 @@ use Rattle.rules.specs.Effects.{Effect, plain, ticked, effect}
 use Rattle.rules.specs.Step.{accepted, step}
 use Rattle.rules.proofs.Bools.{or-right}
 use Rattle.rules.proofs.Queues.{Sound, queue-length, sent-stored}
-use Rattle.rules.proofs.Validity.{Parts, parts-of, sound, bound-below}
+use Rattle.rules.proofs.Rules.{Parts}
+use Rattle.rules.proofs.ValidQueues.{sound, bound-below}
+use Rattle.rules.proofs.Validity.{parts-of}
 use Rattle.rules.proofs.Refusals.{Accepted, accepted-facts}
 use Rattle.queues.specs.Gaps.{closedIn}
 use Rattle.queues.specs.Places.{placeIn}

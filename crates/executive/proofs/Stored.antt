@@ -14,7 +14,9 @@ use Rattle.rules.specs.Validity.{valid}
 use Rattle.rules.specs.Refusals.{absent, objectReasons}
 use Rattle.rules.specs.Queries.{oneIf, emptyQuery, fullQuery}
 use Rattle.rules.proofs.Queues.{queue-length}
-use Rattle.rules.proofs.Validity.{parts-of, counts-fit, sound}
+use Rattle.rules.proofs.Rules.{counts-fit}
+use Rattle.rules.proofs.ValidQueues.{sound}
+use Rattle.rules.proofs.Validity.{parts-of}
 use Rattle.rules.proofs.Refusals.{first-none}
 use Rattle.executive.specs.Replies.{replyBy}
 use Rattle.executive.proofs.Alike.{objectFlags, reply-same}

@@ -27,7 +27,9 @@ use Rattle.rules.proofs.Entries.{entries-most, entries-some, enteredBy, freeReg
 use Rattle.rules.proofs.Effects.{each-effect, ringing-same}
 use Rattle.rules.proofs.Refusals.{Accepted, accepted-facts}
 use Rattle.rules.specs.Checks.{regionFits}
-use Rattle.rules.proofs.Validity.{Parts, parts-of, region-fits, entries-fit, held-fits, counts-fit}
+use Rattle.rules.proofs.Rules.{Parts, counts-fit}
+use Rattle.rules.proofs.ValidRegions.{region-fits, entries-fit, held-fits}
+use Rattle.rules.proofs.Validity.{parts-of}
 use Rattle.theorems.specs.Kept.{afterAll}
 use Rattle.lasting_theorems.specs.Balanced.{enters, exits, balanced, NestedBalanced, Protected, StillHeld, NothingLeft, FreedAtMatch}
 use Rattle.theorems.proofs.Regions.{holder-elected}

@@ -28,7 +28,8 @@ use Rattle.theorems.proofs.Tasks.{signalled-arrived}
 use Rattle.theorems.proofs.Columns.{changed-same, task-other, changed-leaves}
 use Rattle.rules.proofs.Clock.{ahead-later, ahead-next}
 use Rattle.theorems.proofs.ArmedTimers.{disarm-others, timer-given, idle-right, due-last, counter-fits, each-right}
-use Rattle.rules.proofs.Validity.{Parts, parts-of}
+use Rattle.rules.proofs.Rules.{Parts}
+use Rattle.rules.proofs.Validity.{parts-of}
 use Rattle.rules.proofs.Refusals.{Accepted, accepted-facts}
 use Rattle.rules.proofs.Effects.{each-effect}
 use Rattle.theorems.specs.Kept.{afterAll}

@@ -24,7 +24,9 @@ use Rattle.rules.proofs.Bits.{bit-of-zero}
 use Rattle.rules.proofs.Events.{has-arrived, has-other, has-cleared}
 use Rattle.theorems.proofs.Tasks.{signalled-arrived}
 use Rattle.theorems.proofs.Columns.{changed-same, task-other, changed-holds}
-use Rattle.rules.proofs.Validity.{Parts, parts-of, row-right, waits-unmet}
+use Rattle.rules.proofs.Rules.{Parts}
+use Rattle.rules.proofs.ValidTasks.{row-right}
+use Rattle.rules.proofs.Validity.{parts-of, waits-unmet}
 use Rattle.rules.proofs.Refusals.{Accepted, accepted-facts}
 use Rattle.rules.proofs.Effects.{each-effect}
 use Rattle.theorems.specs.Kept.{afterAll}

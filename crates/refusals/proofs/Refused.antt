@@ -19,7 +19,9 @@ use Rattle.rules.specs.Validity.{valid, countsInRange}
 use Rattle.rules.specs.Refusals.{missing, badOperator, wrongState, leaves, entriesFull, reasons, refusal}
 use Rattle.rules.proofs.Bools.{given, or-left}
 use Rattle.rules.proofs.Queues.{queue-length}
-use Rattle.rules.proofs.Validity.{Parts, parts-of, sound}
+use Rattle.rules.proofs.Rules.{Parts}
+use Rattle.rules.proofs.ValidQueues.{sound}
+use Rattle.rules.proofs.Validity.{parts-of}
 use Rattle.rules.proofs.Refusals.{first-append}
 use Rattle.queues.proofs.Places.{none-is}
 use Rattle.refusals.specs.QueueFlags.{lacking}

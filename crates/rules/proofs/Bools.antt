@@ -43,14 +43,16 @@ or-keeps false b b′ k h = k h
 pub not-intro : (b : Bool) → b ≡ false → not b ≡ true
 not-intro b h = simp h
 
-pub not-intro′ : (b : Bool) → b ≡ true → not b ≡ false
-not-intro′ b h = simp h
-
 -- two tests that pass together are one
 pub same-test : (a b : Bool) → (a ≡ true → b ≡ true) → (b ≡ true → a ≡ true) → a ≡ b
 same-test true b f g = sym (f refl)
 same-test false true f g = g refl
 same-test false false f g = refl
+
+infixr 3 _&_
+-- facts joined into one, as `Each` asks for them: a fact for each test, then `tt`
+abbrev pub _&_ : {A B : Type 0} → A → B → A × B
+a & b = (a, b)
 
 -- a list of tests, and each of them
 pub given : (bs : List Bool) → all bs ≡ true → Each bs

@@ -19,6 +19,7 @@ use Rattle.rules.specs.Regions.{exited}
 use Rattle.rules.specs.Timers.{later, isDue}
 use Rattle.rules.specs.Tables.{changed, electionOf}
 use Rattle.rules.specs.Effects.{Effect, plain, nothing, exit, ringing, ticked, operations, effect}
+use Rattle.rules.proofs.Bools.{_&_, not-intro}
 
 -- ---- by operation
 
@@ -39,13 +40,13 @@ effect-past t c h = ap (λ f. f t c) (List·getD-eq-default operations nothing h
 
 -- what holds of each operation's effect, and of nothing done, holds of every call's effect
 pub each-effect {ℓ} : (t : Table) (c : Call) (P : ℕ → Effect → Type ℓ)
-    → Upto 13 (λ n. P n (byOperation nothing n operations t c)) → ((n : ℕ) → P n (plain t)) → P (c .operation) (effect t c)
+    → Upto (length operations) (λ n. P n (byOperation nothing n operations t c)) → ((n : ℕ) → P n (plain t)) → P (c .operation) (effect t c)
 unfolding effect
-each-effect t c P each none = go (ltb (c .operation) 13) refl
+each-effect t c P each none = go (ltb (c .operation) (length operations)) refl
   where
-    go : (b : Bool) → ltb (c .operation) 13 ≡ b → P (c .operation) (effect t c)
-    go true h = upto 13 (λ n. P n (byOperation nothing n operations t c)) each (c .operation) (ltb-true (c .operation) 13 h)
-    go false h = rw (effect-past t c (ltb-false (c .operation) 13 h)) (none (c .operation))
+    go : (b : Bool) → ltb (c .operation) (length operations) ≡ b → P (c .operation) (effect t c)
+    go true h = upto (length operations) (λ n. P n (byOperation nothing n operations t c)) each (c .operation) (ltb-true _ _ h)
+    go false h = rw (effect-past t c (ltb-false _ _ h)) (none (c .operation))
 
 -- ---- due timers
 
@@ -61,9 +62,6 @@ ringing-same f k n (r ∷ rs) t = ringing-same f k n rs (cond (isDue n r) (chang
     go false = refl
 
 -- ---- what is left alone
-
-never : {X : Type 0} → false ≡ true → X
-never h = absurd (false≢true h)
 
 -- counts, priorities and bounds, and the elected task until the election
 pub record Frame : Type 0 where
@@ -95,6 +93,14 @@ pub record Columns : Type 0 where
 abbrev pub columnsOf : Table → Columns
 columnsOf t = record { state = t .state; arrived = t .arrived; list = t .list; operator = t .operator }
 
+-- what is said of the regions
+pub record Held : Type 0 where
+  pub holder : List ℕ
+  pub entries : List ℕ
+
+abbrev pub heldOf : Table → Held
+heldOf t = record { holder = t .holder; entries = t .entries }
+
 -- what the queues hold
 pub record Contents : Type 0 where
   pub lengths : List ℕ
@@ -104,65 +110,70 @@ pub record Contents : Type 0 where
 abbrev pub contentsOf : Table → Contents
 contentsOf t = record { lengths = t .length; element = t .element; criterion = t .criterion }
 
+-- the two entries of the lists below, which have one for each operation: it leaves this alone; the law doesn't speak of it
+kept : {P X : Type 0} {x : X} → P → x ≡ x
+kept p = refl
+
+never : {X : Type 0} → false ≡ true → X
+never h = absurd (false≢true h)
+
 module _ (t : Table) (c : Call) where
+  -- a tick leaves alone what no change of a task touches
+  tick-keeps : {X : Type 0} (f : Table → X) → ((i : ℕ) (g : Task → Task) (u : Table) → f (changed i g u) ≡ f u)
+      → f (ringing (later (t .ticks) 1) (t .timers) t) ≡ f t
+  tick-keeps f k = ringing-same f k (later (t .ticks) 1) (t .timers) t
+
   -- no operation changes counts, priorities or bounds
   pub frame-kept : frameOf (effect t c .table) ≡ frameOf t
   unfolding ticked
   frame-kept =
       each-effect t c (λ n e. frameOf (e .table) ≡ frameOf t)
-      (refl, (refl, (refl, (refl, (refl, (refl, (refl, (refl, (refl, (refl, (refl, (refl, (ringing-same frameOf (λ i g u. refl) (later (t .ticks) 1) (t .timers) t, tt)))))))))))))
+      (refl & refl & refl & refl & refl & refl & refl & refl & refl & refl & refl & refl & tick-keeps frameOf (λ i g u. refl) & tt)
       (λ n. refl)
 
   -- only the first six and TICK change a task
   pub columns-kept : (ltb CLEAR (c .operation) && ltb (c .operation) TICK) ≡ true → columnsOf (effect t c .table) ≡ columnsOf t
   columns-kept =
       each-effect t c (λ n e. (ltb CLEAR n && ltb n TICK) ≡ true → columnsOf (e .table) ≡ columnsOf t)
-      (never, (never, (never, (never, (never, (never, (λ h. refl, (λ h. refl, (λ h. refl, (λ h. refl, (λ h. refl, (λ h. refl, (never, tt)))))))))))))
-      (λ n h. refl)
+      (never & never & never & never & never & never & kept & kept & kept & kept & kept & kept & never & tt)
+      (λ n. kept)
 
-  -- only ENTER and EXIT change a holder
-  pub holders-kept : (eqb (c .operation) ENTER || eqb (c .operation) EXIT) ≡ false → effect t c .table .holder ≡ t .holder
+  -- only ENTER and EXIT change a holder or a count of entries
+  pub regions-kept : not (eqb (c .operation) ENTER || eqb (c .operation) EXIT) ≡ true → heldOf (effect t c .table) ≡ heldOf t
   unfolding ticked
-  holders-kept =
-      each-effect t c (λ n e. (eqb n ENTER || eqb n EXIT) ≡ false → e .table .holder ≡ t .holder)
-      (λ h. refl, (λ h. refl, (λ h. refl, (λ h. refl, (λ h. refl, (λ h. refl, (λ h. never (sym h), (λ h. never (sym h), (λ h. refl, (λ h. refl, (λ h. refl, (λ h. refl, (λ h. ringing-same (λ u. u .holder) (λ i g u. refl) (later (t .ticks) 1) (t .timers) t, tt)))))))))))))
-      (λ n h. refl)
-
-  -- and only they a count of entries
-  pub entries-kept : (eqb (c .operation) ENTER || eqb (c .operation) EXIT) ≡ false → effect t c .table .entries ≡ t .entries
-  unfolding ticked
-  entries-kept =
-      each-effect t c (λ n e. (eqb n ENTER || eqb n EXIT) ≡ false → e .table .entries ≡ t .entries)
-      (λ h. refl, (λ h. refl, (λ h. refl, (λ h. refl, (λ h. refl, (λ h. refl, (λ h. never (sym h), (λ h. never (sym h), (λ h. refl, (λ h. refl, (λ h. refl, (λ h. refl, (λ h. ringing-same (λ u. u .entries) (λ i g u. refl) (later (t .ticks) 1) (t .timers) t, tt)))))))))))))
-      (λ n h. refl)
+  regions-kept =
+      each-effect t c (λ n e. not (eqb n ENTER || eqb n EXIT) ≡ true → heldOf (e .table) ≡ heldOf t)
+      (kept & kept & kept & kept & kept & kept & never & never & kept & kept & kept & kept & (λ h. tick-keeps heldOf (λ i g u. refl)) & tt)
+      (λ n. kept)
 
   -- only SEND and RETRIEVE change what the queues hold
   pub contents-kept : (eqb (c .operation) SEND || eqb (c .operation) RETRIEVE) ≡ false → contentsOf (effect t c .table) ≡ contentsOf t
   unfolding ticked
-  contents-kept =
-      each-effect t c (λ n e. (eqb n SEND || eqb n RETRIEVE) ≡ false → contentsOf (e .table) ≡ contentsOf t)
-      (λ h. refl, (λ h. refl, (λ h. refl, (λ h. refl, (λ h. refl, (λ h. refl, (λ h. refl, (λ h. refl, (λ h. never (sym h), (λ h. never (sym h), (λ h. refl, (λ h. refl, (λ h. ringing-same contentsOf (λ i g u. refl) (later (t .ticks) 1) (t .timers) t, tt)))))))))))))
-      (λ n h. refl)
+  contents-kept h =
+      each-effect t c (λ n e. not (eqb n SEND || eqb n RETRIEVE) ≡ true → contentsOf (e .table) ≡ contentsOf t)
+      (kept & kept & kept & kept & kept & kept & kept & kept & never & never & kept & kept & (λ h. tick-keeps contentsOf (λ i g u. refl)) & tt)
+      (λ n. kept)
+      (not-intro _ h)
 
   -- an operation that changes neither a task nor a holder changes nothing that the election reads
   pub election-kept : (ltb EXIT (c .operation) && ltb (c .operation) TICK) ≡ true → electionOf (effect t c .table) ≡ electionOf t
   election-kept =
       each-effect t c (λ n e. (ltb EXIT n && ltb n TICK) ≡ true → electionOf (e .table) ≡ electionOf t)
-      (never, (never, (never, (never, (never, (never, (never, (never, (λ h. refl, (λ h. refl, (λ h. refl, (λ h. refl, (never, tt)))))))))))))
-      (λ n h. refl)
+      (never & never & never & never & never & never & never & never & kept & kept & kept & kept & never & tt)
+      (λ n. kept)
 
   -- only STOP, END, ARM, DISARM and TICK change a timer, and only TICK the counter
   pub timers-kept : (ltb (c .operation) ARM && not (eqb (c .operation) STOP || eqb (c .operation) END)) ≡ true → effect t c .table .timers ≡ t .timers
   timers-kept =
       each-effect t c (λ n e. (ltb n ARM && not (eqb n STOP || eqb n END)) ≡ true → e .table .timers ≡ t .timers)
-      (λ h. refl, (never, (never, (λ h. refl, (λ h. refl, (λ h. refl, (λ h. refl, (λ h. refl, (λ h. refl, (λ h. refl, (never, (never, (never, tt)))))))))))))
-      (λ n h. refl)
+      (kept & never & never & kept & kept & kept & kept & kept & kept & kept & never & never & never & tt)
+      (λ n. kept)
 
   pub ticks-kept : ltb (c .operation) TICK ≡ true → effect t c .table .ticks ≡ t .ticks
   ticks-kept =
       each-effect t c (λ n e. ltb n TICK ≡ true → e .table .ticks ≡ t .ticks)
-      (λ h. refl, (λ h. refl, (λ h. refl, (λ h. refl, (λ h. refl, (λ h. refl, (λ h. refl, (λ h. refl, (λ h. refl, (λ h. refl, (λ h. refl, (λ h. refl, (never, tt)))))))))))))
-      (λ n h. refl)
+      (kept & kept & kept & kept & kept & kept & kept & kept & kept & kept & kept & kept & never & tt)
+      (λ n. kept)
 
 -- EXIT looks at the regions alone: in two tables whose regions agree, whatever their events are, it leaves regions that agree
 pub exit-by-regions : (t u : Table) (c : Call) → t .holder ≡ u .holder → t .entries ≡ u .entries

@@ -39,7 +39,7 @@ module _ (passes : ℕ → Bool) (priority : ℕ → ℕ) where
           let less = at-most in
           omega arith
 
-  -- one that passes has it, unless it is 256
+  -- one that passes has it, unless it is past every priority
   pub smallest-had : (n : ℕ)
       → (smallest n passes priority ≡ priorityEnd)
       ⊎ ((i : ℕ) × (i < n) × (passes i ≡ true) × (priority i ≡ smallest n passes priority))
@@ -80,37 +80,19 @@ pub record Lowest (n : ℕ) (passes : ℕ → Bool) : Type 0 where
 
 -- as the count goes on: still none, found here, found before
 module _ (passes : ℕ → Bool) (n : ℕ) where
-  pub lowest-none : lowest n passes ≡ nobody → passes n ≡ false → lowest (suc n) passes ≡ nobody
+  lowest-none : lowest n passes ≡ nobody → passes n ≡ false → lowest (suc n) passes ≡ nobody
   unfolding lowest
   lowest-none e h = simp (e, h)
 
-  pub lowest-again : lowest n passes ≡ nobody → passes n ≡ false → lowest (n + 1) passes ≡ nobody
-  lowest-again e h = rw add-one (lowest-none e h)
-
-  pub lowest-here : lowest n passes ≡ nobody → passes n ≡ true → lowest (suc n) passes ≡ n
+  lowest-here : lowest n passes ≡ nobody → passes n ≡ true → lowest (suc n) passes ≡ n
   unfolding lowest
   lowest-here e h = simp (e, h)
 
-  pub lowest-kept : lowest n passes ≢ nobody → lowest (suc n) passes ≡ lowest n passes
+  lowest-kept : lowest n passes ≢ nobody → lowest (suc n) passes ≡ lowest n passes
   unfolding lowest
   lowest-kept h = rw (ne-eqb (lowest n passes) nobody h)
 
-pub lowest-end : (i n : ℕ) (passes : ℕ → Bool) → lowest i passes ≡ nobody → i ≤ n → n ≤ i → nobody ≡ lowest n passes
-lowest-end i n passes e l k = at-end (λ m. lowest m passes) i n (sym e) l k
-
--- found at i: it stays, however far the count goes
-pub lowest-found : (passes : ℕ → Bool) (i n : ℕ) → i < n → i ≢ nobody → lowest i passes ≡ nobody → passes i ≡ true → lowest n passes ≡ i
-lowest-found passes i zero l w e h = absurd (omega arith)
-lowest-found passes i (suc n) l w e h = go (eqb i n) refl (lowest-found passes i n)
-  where
-    go : (b : Bool) → eqb i n ≡ b → (i < n → i ≢ nobody → lowest i passes ≡ nobody → passes i ≡ true → lowest n passes ≡ i)
-        → lowest (suc n) passes ≡ i
-    go true f ih = let same = eqb-true i n f in rw (← same) (lowest-here passes i e h)
-    go false f ih =
-        let other : i ≢ n = eqb-false i n f in
-        let found = ih (omega arith) w e h in
-        lowest-kept passes n (λ z. w (sym found ∙ z)) ∙ found
-
+-- it is nobody where none passes, else the lowest that does
 pub lowest-is : (passes : ℕ → Bool) (n : ℕ) → n ≤ nobody
     → ((lowest n passes ≡ nobody) × ((i : ℕ) → i < n → passes i ≡ false)) ⊎ Lowest n passes
 unfolding lowest

@@ -8,6 +8,10 @@ pub mod Election
 pub mod Store
 pub mod Queues
 pub mod Retrieve
+pub mod Rules
+pub mod ValidTasks
+pub mod ValidRegions
+pub mod ValidQueues
 pub mod Validity
 pub mod Refusals
 pub mod Effects

@@ -165,9 +165,29 @@ PO5 =
 abbrev rows : List (List Run)
 rows = P1 ∷ P2 ∷ P3 ∷ P4 ∷ P5 ∷ PO1 ∷ PO2 ∷ PO3 ∷ PO4 ∷ PO5 ∷ []
 
--- to unfold this is to unfold all that the rules compute with
+-- to unfold these is to unfold all that the rules compute with
+computingWords : Unit {0}
+unfolding all every below padded met arrive cleared woken signalled waited held later ahead smallest lowest isBest bestReady election
+computingWords = tt
+
+computingQueues : Unit {0}
+unfolding pairs front behind laid largest before place without queueOf
+computingQueues = tt
+
+computingRules : Unit {0}
+unfolding shaped countsInRange prioritiesInRange boundsInRange listsInRange operatorsInRange holdersInRange criteriaInRange zeroPast zeroPastCounts
+computingRules = tt
+
+computingMoreRules : Unit {0}
+unfolding zeroPastLengths restRight statesRight entriesRight oneHolder holderReady holderElected lengthsRight electedRight timerRight timersRight valid
+computingMoreRules = tt
+
+computingSteps : Unit {0}
+unfolding configurationInRange freshTable fresh missing wrongState leaves reasons ringing ticked effect zeroBehind quickValid quickStep
+computingSteps = tt
+
 computing : Unit {0}
-unfolding rowsRight right begun rightFrom sameAnswer sameEvents all every below padded met arrive cleared woken signalled waited held pairs front behind laid largest before place without smallest lowest isBest bestReady election queueOf shaped countsInRange prioritiesInRange boundsInRange listsInRange operatorsInRange holdersInRange criteriaInRange zeroPast zeroPastCounts zeroPastLengths restRight statesRight entriesRight oneHolder holderReady holderElected lengthsRight electedRight timerRight timersRight valid later ahead ringing ticked configurationInRange freshTable fresh missing wrongState leaves reasons effect zeroBehind quickValid quickStep
+unfolding rowsRight right begun rightFrom sameAnswer sameEvents computingWords computingQueues computingRules computingMoreRules computingSteps
 computing = tt
 
 -- the one claim: antt computes every run of every row

@@ -12,7 +12,7 @@ use Rattle.rules.specs.Words.{isZero, all, below, past}
 use Rattle.rules.proofs.Bools.{and-left, and-right, same-test, given, shown}
 use Rattle.rules.proofs.Counts.{below-again, past-all}
 use Rattle.rules.specs.Checks.{rowRight, rowZero, rowFits, tasksRight}
-use Rattle.rules.proofs.Validity.{row-given}
+use Rattle.rules.proofs.ValidTasks.{row-given}
 
 -- ---- past the count
 

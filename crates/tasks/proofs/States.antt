@@ -10,7 +10,7 @@ use Rattle.rules.specs.Events.{met}
 use Rattle.rules.proofs.Bools.{and-left, and-right, both, same-test}
 use Rattle.rules.specs.Validity.{stateRight}
 use Rattle.rules.specs.Checks.{rowRight}
-use Rattle.rules.proofs.Validity.{row-given, row-shown}
+use Rattle.rules.proofs.ValidTasks.{row-given, row-shown}
 
 module _ (priority arrived list operator : ℕ) (p : priority < 256) (a : arrived < 65536) (l : list < 65536) where
   idle : Bool

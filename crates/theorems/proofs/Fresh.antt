@@ -22,7 +22,9 @@ use Rattle.rules.proofs.Counts.{below-all}
 use Rattle.rules.proofs.Lists.{every-in, every-take, every-drop, every-replicate, length-padded, padded-at, padded-past}
 use Rattle.rules.proofs.Election.{wins-alone, best-wins, election-free}
 use Rattle.rules.specs.Checks.{rowFits, rowZero, tasksRight, entriesEverywhere, holderRight, boundFits, queueRight, queuesRight}
-use Rattle.rules.proofs.Validity.{row-shown, Parts, valid-parts, counts-fit}
+use Rattle.rules.proofs.Rules.{Parts, counts-fit}
+use Rattle.rules.proofs.ValidTasks.{row-shown}
+use Rattle.rules.proofs.Validity.{valid-parts}
 use Rattle.theorems.proofs.ArmedTimers.{idle-right, timers-shown}
 use Rattle.theorems.specs.Kept.{FreshValid, ZerosInvalid}
 use Rattle.theorems.proofs.Regions.{free-fits}

@@ -25,7 +25,9 @@ use Rattle.rules.specs.Effects.{stoppedTable, nothing, operations, effect}
 use Rattle.rules.specs.Step.{step}
 use Rattle.rules.proofs.Bools.{given, or-left, or-right, not-intro}
 use Rattle.theorems.proofs.Tasks.{signalled-stopped, signalled-ready}
-use Rattle.rules.proofs.Validity.{Parts, parts-of, valid-parts, row-right, elected-ready, elected-below}
+use Rattle.rules.proofs.Rules.{Parts}
+use Rattle.rules.proofs.ValidTasks.{row-right, elected-ready, elected-below}
+use Rattle.rules.proofs.Validity.{parts-of, valid-parts}
 use Rattle.rules.proofs.Refusals.{Accepted, accepted-facts}
 use Rattle.rules.proofs.Effects.{each-effect}
 use Rattle.theorems.specs.Kept.{ValidKept, ValidAfter, RefusedSame, ValidSame}

@@ -9,7 +9,8 @@ use Rattle.rules.specs.declared.Call.{Call}
 use Rattle.rules.specs.Numbers.{taskRoom}
 use Rattle.rules.specs.Words.{isZero}
 use Rattle.rules.specs.Validity.{shaped, valid}
-use Rattle.rules.proofs.Validity.{parts-of, counts-fit}
+use Rattle.rules.proofs.Rules.{counts-fit}
+use Rattle.rules.proofs.Validity.{parts-of}
 use Rattle.rules.proofs.Effects.{frame-kept}
 use Rattle.theorems.specs.Happenings.{Happening, outside, own, outerCall, run, calls, outers, Reply, callReplies, statusFirst, outerStatuses, InTurn, Free, Agree, Demand3}
 use Rattle.theorems.proofs.Kept.{valid-kept}

@@ -21,7 +21,8 @@ use Rattle.rules.proofs.Lists.{every-append, every-take, every-drop, every-cons
 use Rattle.rules.proofs.Store.{slice-is, every-laid, laid-length, behind-laid-same, behind-laid-other}
 use Rattle.rules.proofs.Queues.{queue-length, queue-criteria}
 use Rattle.rules.specs.Checks.{boundFits, queueRight, queuesRight}
-use Rattle.rules.proofs.Validity.{Parts, sound, used, bound-below, counts-fit}
+use Rattle.rules.proofs.Rules.{Parts, counts-fit}
+use Rattle.rules.proofs.ValidQueues.{sound, used, bound-below}
 
 module _ (t : Table) (p : Parts t) (q : ℕ) (l : q < t .queues) where
   room : q < queueRoom

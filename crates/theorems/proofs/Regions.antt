@@ -23,7 +23,9 @@ use Rattle.rules.proofs.Election.{election-held}
 use Rattle.theorems.proofs.HeldRegions.{held-at, held-free}
 use Rattle.rules.proofs.Entries.{entries-most, entries-some, entries-shown, regions-long}
 use Rattle.rules.specs.Checks.{regionFits, regionsRight, entriesEverywhere, holderRight}
-use Rattle.rules.proofs.Validity.{Parts, counts-fit, entries-fit, elected-ready, elected-below}
+use Rattle.rules.proofs.Rules.{Parts, counts-fit}
+use Rattle.rules.proofs.ValidTasks.{elected-ready, elected-below}
+use Rattle.rules.proofs.ValidRegions.{entries-fit}
 
 -- ---- every region is free or has the entry v
 

@@ -27,7 +27,8 @@ use Rattle.rules.proofs.Events.{arrive-lt, cleared-le}
 use Rattle.theorems.proofs.Columns.{columns-long, shaped-with}
 use Rattle.theorems.proofs.ArmedTimers.{every-map, every-kept, awake-right, stopped-right, counter-fits, each-right, timers-shown}
 use Rattle.rules.specs.Checks.{rowFits, tasksRight, holderRight}
-use Rattle.rules.proofs.Validity.{Row, row-shown, Parts, counts-fit}
+use Rattle.rules.proofs.Rules.{Parts, counts-fit}
+use Rattle.rules.proofs.ValidTasks.{Row, row-shown}
 
 -- a task with this priority is right
 abbrev pub Fits : ℕ → Task → Type 0

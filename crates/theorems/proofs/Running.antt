@@ -24,7 +24,10 @@ use Rattle.rules.proofs.Bools.{given}
 use Rattle.theorems.proofs.HeldRegions.{held-free}
 use Rattle.rules.proofs.Election.{best-wins, best-nobody, election-held, election-free}
 use Rattle.rules.specs.Checks.{rowZero}
-use Rattle.rules.proofs.Validity.{Parts, parts-of, held-fits, row-right, row-zero, counts-fit, elected-ready, elected-below}
+use Rattle.rules.proofs.Rules.{Parts, counts-fit}
+use Rattle.rules.proofs.ValidTasks.{row-right, row-zero, elected-ready, elected-below}
+use Rattle.rules.proofs.ValidRegions.{held-fits}
+use Rattle.rules.proofs.Validity.{parts-of}
 use Rattle.rules.proofs.Refusals.{Accepted, accepted-facts}
 use Rattle.rules.proofs.Effects.{each-effect, ringing-same}
 use Rattle.theorems.specs.Running.{Runs, RightOneRuns, OnlyHolder, FreedByExit, HolderStays}

@@ -22,7 +22,8 @@ use Rattle.theorems.proofs.Tasks.{signalled-stopped, signalled-ready}
 use Rattle.theorems.proofs.Columns.{shaped-with, changed-leaves}
 use Rattle.rules.proofs.Clock.{later-fits}
 use Rattle.theorems.proofs.ArmedTimers.{Counting, every-map, every-altered, timer-given, timer-states, armed-right, disarmed-right, rung-right, counter-fits, each-right, timers-shown, timers-states}
-use Rattle.rules.proofs.Validity.{Parts, row-right}
+use Rattle.rules.proofs.Rules.{Parts}
+use Rattle.rules.proofs.ValidTasks.{row-right}
 use Rattle.rules.proofs.Effects.{ringing-same}
 use Rattle.theorems.proofs.Rows.{signalled-fits, below-room, keep-task, timers-awake}
 

@@ -2,7 +2,7 @@
 use borrow.Author.Needs.{needs}
 use mathlib.Core.Path.{sym, _∙_}
 use borrow.Author.Tests.{not-true, not-false}
-use Rattle.rules.proofs.Validity.{counts-fit}
+use Rattle.rules.proofs.Rules.{counts-fit}
 use Rattle.tables.proofs.Configured.{counts-refuse, priorities-refuse, bounds-refuse, bound-refuses, accepts}
 use Rattle.tables.proofs.configuration.fresh.Statement.{statement}
 use Rattle.tables.proofs.configuration.fresh.Tie as tie
