@@ -30,7 +30,7 @@ use Rattle.theorems.proofs.Order.{demand3}
 use Rattle.lasting_theorems.specs.Examples.{begun, by, Premise, SameEnd, counting, ticksFirst, ticksLater, SameEndTicking, waits, wakesFirst, wakesLater, SameEndWaking, electsFirst, electsLater, SameEndElecting, OnlyRefusingPasses, FixedPasses, UntouchedPasses, NotInTurn, NotFree, NotPastArm, NotPastDisarm, NotOnlyRefusing, NotFixed, NotUntouched}
 
 -- to unfold this is to unfold all that the rules compute with
-rules : Unit {0}
+unfoldable pub rules : Unit {0}
 unfolding all every below padded met arrive woken signalled waited held pairs front behindFront laid largest beforeFirst place without smallest lowest isBest bestReady election queueOf shaped countsInRange prioritiesInRange boundsInRange listsInRange operatorsInRange holdersInRange criteriaInRange zeroPast zeroPastCounts zeroPastLengths restRight statesRight entriesRight oneHolder holderReady holderElected lengthsRight electedRight timerRight timersRight valid later ahead ringing ticked freshTable missing wrongState leaves reasons refusal effect step zeroTable
 rules = tt
 
