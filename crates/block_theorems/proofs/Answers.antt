@@ -24,13 +24,12 @@ use Rattle.rules.proofs.Bools.{given, shown}
 use Rattle.rules.proofs.Lists.{every-head, every-tail, every-cons, every-nil, every-at}
 use Rattle.rules.proofs.Validity.{parts-of}
 use Rattle.theorems.proofs.Kept.{valid-kept}
-use Rattle.theorems.proofs.Refused.{one}
 use Rattle.packing.proofs.RoundTrips.{fits}
 use Rattle.layout.specs.Layout.{blockSize, unpacked, isTable}
 use Rattle.packing.specs.Answers.{answerNumber}
 use Rattle.layout.specs.Calls.{notATable, freshBlock, callBlock, query, queryBlock}
 use Rattle.block_theorems.specs.Ranges.{byteEnd, wordEnd, areBytes, elementsInRange, answerInRange}
-use Rattle.block_theorems.specs.Answers.{answerIn, AnswerReadBack, OneNumber, AnswersRead, OneStored}
+use Rattle.block_theorems.specs.Answers.{answerIn, AnswerReadBack, OneNumber, AnswersRead}
 use Rattle.block_theorems.proofs.Fitting.{Fitting, elected-fits, fitting}
 use Rattle.block_theorems.proofs.Packs.{unpack-then-pack}
 use Rattle.block_theorems.proofs.Elements.{effect-small}
@@ -188,12 +187,4 @@ answers-read =
       call = λ block c small. call-read block small c;
       query = λ block number caller a b small. query-read block small number caller a b;
       fresh-block = fresh-read;
-    }
-
-pub one-stored : OneStored
-one-stored =
-    record {
-      call = λ block c. one _;
-      query = λ block number caller a b. one _;
-      fresh-block = λ block tasks regions queues priorities bounds. one _;
     }

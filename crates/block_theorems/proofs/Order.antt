@@ -7,6 +7,7 @@ use native.Mathlib.Omega.{arith}
 use Rattle.rules.specs.declared.Call.{Call}
 use Rattle.rules.specs.Numbers.{SEND}
 use Rattle.rules.specs.Words.{every}
+use Rattle.rules.specs.Step.{step}
 use Rattle.rules.proofs.Lists.{every-head, every-tail}
 use Rattle.theorems.specs.Happenings.{Outer, signal, tick, Happening, outside, own, outerCall, callOf, calls, outers, Reply, reply, run as tableRun, callReplies as tableReplies, statusFirst as tableFirst, outerStatuses as tableStatuses, InTurn as TableInTurn}
 use Rattle.theorems.proofs.Order.{demand3}
@@ -21,17 +22,17 @@ use Rattle.block_theorems.proofs.Kept.{call-answered, call-kept, kept-b
 
 -- what is said of a block and of the table in it
 record Alike (block : List ℕ) (xs : List Happening) : Type 0 where
-  last : run block xs ≡ packed (tableRun (unpacked block) xs)
-  replies : callReplies block xs ≡ tableReplies (unpacked block) xs
-  statuses : outerStatuses block xs ≡ tableStatuses (unpacked block) xs
-  in-turn : InTurn block xs → TableInTurn (unpacked block) xs
+  last : run block xs ≡ packed (tableRun step (unpacked block) xs)
+  replies : callReplies block xs ≡ tableReplies step (unpacked block) xs
+  statuses : outerStatuses block xs ≡ tableStatuses step (unpacked block) xs
+  in-turn : InTurn block xs → TableInTurn step (unpacked block) xs
 
 -- what comes from outside sends no element
 no-element : (o : Outer) → outerCall o .operation ≡ SEND → outerCall o .b < wordEnd
 no-element (signal s) e = absurd (omega arith)
-no-element tick e = omega arith
+no-element (tick n) e = omega arith
 
-first-alike : (block : List ℕ) → areBytes block ≡ true → isTable block ≡ true → (o : Outer) → statusFirst block o ≡ tableFirst (unpacked block) o
+first-alike : (block : List ℕ) → areBytes block ≡ true → isTable block ≡ true → (o : Outer) → statusFirst block o ≡ tableFirst step (unpacked block) o
 first-alike block small is o = ap (λ r. r .status) (call-answered block (outerCall o) small is)
 
 alike : (xs : List Happening) (block : List ℕ) → areBytes block ≡ true → isTable block ≡ true → every callInRange (calls xs) ≡ true → Alike block xs
@@ -42,19 +43,19 @@ alike (outside o ∷ xs) block small is r =
     let k = call-kept block (outerCall o) small is (no-element o) in
     let ih = alike xs (callBlock block (outerCall o) .block) (k .bytes) (k .accepted) r in
     record {
-      last = ih .last ∙ ap (λ t. packed (tableRun t xs)) (k .table);
-      replies = ih .replies ∙ ap (λ t. tableReplies t xs) (k .table);
-      statuses = ap₂ (λ s l. s ∷ l) (first-alike block small is o) (ih .statuses ∙ ap (λ t. tableStatuses t xs) (k .table));
-      in-turn = λ i. subst (λ t. TableInTurn t xs) (k .table) (ih .in-turn i);
+      last = ih .last ∙ ap (λ t. packed (tableRun step t xs)) (k .table);
+      replies = ih .replies ∙ ap (λ t. tableReplies step t xs) (k .table);
+      statuses = ap₂ (λ s l. s ∷ l) (first-alike block small is o) (ih .statuses ∙ ap (λ t. tableStatuses step t xs) (k .table));
+      in-turn = λ i. subst (λ t. TableInTurn step t xs) (k .table) (ih .in-turn i);
     }
 alike (own c ∷ xs) block small is r =
     let k = kept-block block c small is (every-head callInRange c (calls xs) r) in
     let ih = alike xs (callBlock block c .block) (k .bytes) (k .accepted) (every-tail callInRange c (calls xs) r) in
     record {
-      last = ih .last ∙ ap (λ t. packed (tableRun t xs)) (k .table);
-      replies = ap₂ (λ s l. s ∷ l) (ap reply (call-answered block c small is)) (ih .replies ∙ ap (λ t. tableReplies t xs) (k .table));
-      statuses = ih .statuses ∙ ap (λ t. tableStatuses t xs) (k .table);
-      in-turn = λ i. (i .0, subst (λ t. TableInTurn t xs) (k .table) (ih .in-turn (i .1)));
+      last = ih .last ∙ ap (λ t. packed (tableRun step t xs)) (k .table);
+      replies = ap₂ (λ s l. s ∷ l) (ap reply (call-answered block c small is)) (ih .replies ∙ ap (λ t. tableReplies step t xs) (k .table));
+      statuses = ih .statuses ∙ ap (λ t. tableStatuses step t xs) (k .table);
+      in-turn = λ i. (i .0, subst (λ t. TableInTurn step t xs) (k .table) (ih .in-turn (i .1)));
     }
 
 pub demand3-blocks : Demand3Blocks
@@ -62,7 +63,7 @@ demand3-blocks block xs ys small is r f c p i j =
     let x = alike xs block small is r in
     let y = alike ys block small is (subst (λ cs. every callInRange cs ≡ true) c r) in
     let a = demand3 (unpacked block) xs ys (unpack-then-pack block small is .right) f c p (x .in-turn i) (y .in-turn j) in
-    let first : tableFirst (unpacked block) ≡ statusFirst block = fun-ext (λ o. sym (first-alike block small is o)) in (
+    let first : tableFirst step (unpacked block) ≡ statusFirst block = fun-ext (λ o. sym (first-alike block small is o)) in (
       x .last ∙ ap packed (a .0) ∙ sym (y .last),
       x .replies ∙ a .1 ∙ sym (y .replies),
       x .statuses ∙ a .2 ∙ ap (λ g. map g (outers xs)) first,

@@ -1,4 +1,4 @@
--- Demand 2 over blocks: the answer is read back from its number, and no second one would do.
+-- Demand 2 over blocks: the answer is read back from its number, which no other answer has.
 use Prim.Native.Nat.{ℕ, _/_, _%_}
 use mathlib.Core.Path.{_≡_}
 use mathlib.Core.Bool.{true, cond}
@@ -9,10 +9,9 @@ use Rattle.rules.specs.declared.Call.{Call}
 use Rattle.rules.specs.declared.Answer.{Answer}
 use Rattle.rules.specs.Fresh.{fresh}
 use Rattle.rules.specs.Step.{step}
-use Rattle.theorems.specs.Refused.{One}
 use Rattle.layout.specs.Layout.{blockSize, unpacked, isTable}
 use Rattle.packing.specs.Answers.{answerNumber}
-use Rattle.layout.specs.Calls.{Stored, notATable, freshBlock, callBlock, query, queryBlock}
+use Rattle.layout.specs.Calls.{notATable, freshBlock, callBlock, query, queryBlock}
 use Rattle.block_theorems.specs.Ranges.{areBytes, answerInRange}
 
 -- ---- an answer's number taken apart: bits 0 to 7, 8 to 15, 16 to 23, and the upper half
@@ -49,11 +48,3 @@ pub record AnswersRead : Type 0 where
   pub fresh-block : (block : List ℕ) (tasks regions queues : ℕ) (priorities bounds : List ℕ)
       → answerIn (freshBlock block tasks regions queues priorities bounds .answer)
       ≡ cond (eqb (length block) blockSize) (fresh tasks regions queues priorities bounds .answer) notATable
-
--- ---- "no second answer would do": one block after the call, and one number
-
-pub record OneStored : Type 0 where
-  pub call : (block : List ℕ) (c : Call) → One {A = Stored} (λ s. s ≡ callBlock block c)
-  pub query : (block : List ℕ) (number caller a b : ℕ) → One {A = ℕ} (λ n. n ≡ queryBlock block number caller a b)
-  pub fresh-block : (block : List ℕ) (tasks regions queues : ℕ) (priorities bounds : List ℕ)
-      → One {A = Stored} (λ s. s ≡ freshBlock block tasks regions queues priorities bounds)

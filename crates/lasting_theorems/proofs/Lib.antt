@@ -3,3 +3,4 @@ pub mod Balanced
 pub mod Lasting
 pub mod Delays
 pub mod Examples
+pub mod Premises

@@ -2,17 +2,20 @@
 use Prim.Native.Nat.{ℕ}
 use mathlib.Core.Path.{_≡_}
 use mathlib.Core.Logic.{_≢_}
+use mathlib.Core.Bool.{true}
 use mathlib.Core.List.{List, [], _∷_, List·Permᴰ}
 use Rattle.rules.specs.declared.Table.{Table}
 use Rattle.rules.specs.declared.Call.{Call}
 use Rattle.rules.specs.declared.Answer.{Answer}
 use Rattle.rules.specs.declared.Done.{Done}
-use Rattle.rules.specs.Numbers.{START, WAIT, ENTER, SEND, ARM, DISARM}
+use Rattle.rules.specs.Numbers.{START, WAIT, ENTER, EXIT, SEND, ARM, DISARM}
+use Rattle.rules.specs.Tasks.{waiting}
 use Rattle.rules.specs.Tables.{taskOf, timerOf, withTimers}
+use Rattle.rules.specs.Validity.{valid}
 use Rattle.rules.specs.Answers.{refused}
 use Rattle.rules.specs.Fresh.{freshTable}
 use Rattle.rules.specs.Step.{step}
-use Rattle.theorems.specs.Happenings.{Outer, signal, tick, Happening, outside, own, run, calls, outers, callReplies, outerStatuses, InTurn, Free}
+use Rattle.theorems.specs.Happenings.{Outer, signal, tick, Happening, outside, own, run, calls, outers, callReplies, outerStatuses, InTurn, Free, Demand3By}
 use Rattle.theorems.specs.Kept.{afterAll}
 
 -- "priorities 5, 5, 2, two regions, one queue of bound 2"
@@ -23,7 +26,10 @@ abbrev pub by : ℕ → ℕ → ℕ → ℕ → ℕ → Call
 by caller operation a b c = record { caller = caller; operation = operation; a = a; b = b; c = c }
 
 abbrev pub event : ℕ → ℕ → Outer
-event e i = signal (record { event = e; task = i })
+event e i = signal (record { event = e; task = i; unread-c = 0 })
+
+abbrev pub aTick : Outer
+aTick = tick (record { unread-a = 0; unread-b = 0; unread-c = 0 })
 
 -- ---- two signals and two calls, arranged in two ways: the same end
 
@@ -35,14 +41,15 @@ behind = own (by 0 ENTER 0 0 0) ∷ outside (event 1 0) ∷ own (by 0 SEND 0 7 3
 
 -- what demand 3 asks for
 pub record Premise (t : Table) (xs ys : List Happening) : Type 0 where
+  pub is-valid : valid t ≡ true
   pub free : Free (calls xs)
   pub same-calls : calls xs ≡ calls ys
   pub same-outers : List·Permᴰ (outers xs) (outers ys)
-  pub first-in-turn : InTurn t xs
-  pub then-in-turn : InTurn t ys
+  pub first-in-turn : InTurn step t xs
+  pub then-in-turn : InTurn step t ys
 
 abbrev pub SameEnd : Type 0
-SameEnd = Premise begun before behind × (run begun before ≡ run begun behind)
+SameEnd = Premise begun before behind × (run step begun before ≡ run step begun behind)
 
 -- ---- two ticks, over the end of the counter, among a signal and two calls: the same end, and the delay is over
 
@@ -51,25 +58,57 @@ abbrev pub counting : Table
 counting = step (withTimers 4294967295 (begun .timers) begun) (by 0 ARM 5 3 2) .table
 
 abbrev pub ticksFirst : List Happening
-ticksFirst = outside tick ∷ outside tick ∷ own (by 0 ENTER 0 0 0) ∷ outside (event 1 0) ∷ own (by 0 SEND 0 7 3) ∷ []
+ticksFirst = outside aTick ∷ outside aTick ∷ own (by 0 ENTER 0 0 0) ∷ outside (event 1 0) ∷ own (by 0 SEND 0 7 3) ∷ []
 
 abbrev pub ticksLater : List Happening
-ticksLater = own (by 0 ENTER 0 0 0) ∷ outside (event 1 0) ∷ outside tick ∷ own (by 0 SEND 0 7 3) ∷ outside tick ∷ []
+ticksLater = own (by 0 ENTER 0 0 0) ∷ outside (event 1 0) ∷ outside aTick ∷ own (by 0 SEND 0 7 3) ∷ outside aTick ∷ []
 
 abbrev pub SameEndTicking : Type 0
 SameEndTicking =
     Premise counting ticksFirst ticksLater
-    × (run counting ticksFirst ≡ run counting ticksLater)
+    × (run step counting ticksFirst ≡ run step counting ticksLater)
     × (timerOf counting 5 .date ≡ 1)
-    × (run counting ticksFirst .ticks ≡ 1)
-    × (taskOf (run counting ticksFirst) 0 .arrived ≡ 10)
-    × (taskOf (run counting ticksLater) 0 .arrived ≡ 10)
+    × (run step counting ticksFirst .ticks ≡ 1)
+    × (taskOf (run step counting ticksFirst) 0 .arrived ≡ 10)
+    × (taskOf (run step counting ticksLater) 0 .arrived ≡ 10)
 
--- ---- a signal that elects another task: a call behind it is not in turn, and is refused
+-- ---- a signal that wakes a task, inside a region: it is elected at the last EXIT
 
 -- task 2, more urgent, waits for its event 0
 abbrev pub waits : Table
 waits = afterAll begun (by 0 START 2 0 0 ∷ by 2 WAIT 1 0 0 ∷ [])
+
+abbrev pub wakesFirst : List Happening
+wakesFirst = own (by 0 ENTER 0 0 0) ∷ outside (event 0 2) ∷ own (by 0 SEND 0 7 3) ∷ own (by 0 EXIT 0 0 0) ∷ []
+
+abbrev pub wakesLater : List Happening
+wakesLater = own (by 0 ENTER 0 0 0) ∷ own (by 0 SEND 0 7 3) ∷ outside (event 0 2) ∷ own (by 0 EXIT 0 0 0) ∷ []
+
+abbrev pub SameEndWaking : Type 0
+SameEndWaking =
+    Premise waits wakesFirst wakesLater
+    × (run step waits wakesFirst ≡ run step waits wakesLater)
+    × (taskOf waits 2 .state ≡ waiting)
+    × (run step waits wakesFirst .elected ≡ 2)
+
+-- ---- a signal that elects another task at once, and one that is refused: task 1 is stopped
+
+abbrev pub electsFirst : List Happening
+electsFirst = outside (event 0 2) ∷ outside (event 0 1) ∷ own (by 2 SEND 0 7 3) ∷ []
+
+abbrev pub electsLater : List Happening
+electsLater = outside (event 0 1) ∷ outside (event 0 2) ∷ own (by 2 SEND 0 7 3) ∷ []
+
+abbrev pub SameEndElecting : Type 0
+SameEndElecting =
+    Premise waits electsFirst electsLater
+    × (run step waits electsFirst ≡ run step waits electsLater)
+    × (waits .elected ≡ 0)
+    × (run step waits electsFirst .elected ≡ 2)
+    × (outerStatuses step waits electsFirst ≡ 0 ∷ 15 ∷ [])
+    × (outerStatuses step waits electsLater ≡ 15 ∷ 0 ∷ [])
+
+-- ---- a signal that elects another task: a call of the former behind it is not in turn, and is refused
 
 abbrev pub early : List Happening
 early = own (by 0 SEND 0 7 3) ∷ outside (event 0 2) ∷ []
@@ -78,28 +117,40 @@ abbrev pub late : List Happening
 late = outside (event 0 2) ∷ own (by 0 SEND 0 7 3) ∷ []
 
 abbrev pub NotInTurn : Type 0
-NotInTurn = InTurn waits early × (InTurn waits late → ⊥) × (callReplies waits early ≢ callReplies waits late)
+NotInTurn = InTurn step waits early × (InTurn step waits late → ⊥) × (callReplies step waits early ≢ callReplies step waits late)
 
 -- ---- a call that SIGNAL's row marks +: the signal's status differs
 
 abbrev pub NotFree : Type 0
 NotFree =
-    outerStatuses begun (own (by 0 START 1 0 0) ∷ outside (event 0 1) ∷ [])
-    ≢ outerStatuses begun (outside (event 0 1) ∷ own (by 0 START 1 0 0) ∷ [])
+    outerStatuses step begun (own (by 0 START 1 0 0) ∷ outside (event 0 1) ∷ [])
+    ≢ outerStatuses step begun (outside (event 0 1) ∷ own (by 0 START 1 0 0) ∷ [])
 
 -- ---- "no ARM or DISARM": behind the ARM the tick is the last of its delay, before it the timer has that tick to come
 
 abbrev pub NotPastArm : Type 0
 NotPastArm =
-    taskOf (run begun (own (by 0 ARM 0 0 1) ∷ outside tick ∷ [])) 0 .arrived
-    ≢ taskOf (run begun (outside tick ∷ own (by 0 ARM 0 0 1) ∷ [])) 0 .arrived
+    taskOf (run step begun (own (by 0 ARM 0 0 1) ∷ outside aTick ∷ [])) 0 .arrived
+    ≢ taskOf (run step begun (outside aTick ∷ own (by 0 ARM 0 0 1) ∷ [])) 0 .arrived
 
 abbrev pub NotPastDisarm : Type 0
 NotPastDisarm =
-    taskOf (run begun (own (by 0 ARM 0 0 1) ∷ own (by 0 DISARM 0 0 0) ∷ outside tick ∷ [])) 0 .arrived
-    ≢ taskOf (run begun (own (by 0 ARM 0 0 1) ∷ outside tick ∷ own (by 0 DISARM 0 0 0) ∷ [])) 0 .arrived
+    taskOf (run step begun (own (by 0 ARM 0 0 1) ∷ own (by 0 DISARM 0 0 0) ∷ outside aTick ∷ [])) 0 .arrived
+    ≢ taskOf (run step begun (own (by 0 ARM 0 0 1) ∷ outside aTick ∷ own (by 0 DISARM 0 0 0) ∷ [])) 0 .arrived
 
--- ---- programs that satisfy demand 3 alone, and do not meet the step
+-- ---- "The program that only refuses, the one with a fixed answer, and the one that hands the table back untouched all satisfy demand 3 taken alone"
+
+abbrev pub OnlyRefusingPasses : Type 0
+OnlyRefusingPasses = (status : Table → Call → ℕ) → Demand3By (λ t c. refused t (status t c))
+
+-- one table and one answer, whatever is called
+abbrev pub FixedPasses : Type 0
+FixedPasses = (d : Done) → Demand3By (λ t c. d)
+
+abbrev pub UntouchedPasses : Type 0
+UntouchedPasses = (f : Table → Call → Done) → ((t : Table) (c : Call) → f t c .table ≡ t) → Demand3By f
+
+-- ---- "demand 2 shuts each out"
 
 abbrev pub Meets : (Table → Call → Done) → Type 0
 Meets f = (t : Table) (c : Call) → f t c ≡ step t c

@@ -17,3 +17,4 @@ pub mod Order
 pub mod Damaged
 pub mod Refused
 pub mod Running
+pub mod Listed

@@ -9,6 +9,7 @@ use Rattle.rules.specs.declared.Call.{Call}
 use Rattle.rules.specs.Numbers.{taskRoom}
 use Rattle.rules.specs.Words.{isZero}
 use Rattle.rules.specs.Validity.{shaped, valid}
+use Rattle.rules.specs.Step.{step}
 use Rattle.rules.proofs.Rules.{counts-fit}
 use Rattle.rules.proofs.Validity.{parts-of}
 use Rattle.rules.proofs.Effects.{frame-kept}
@@ -36,14 +37,14 @@ count-kept t c = go (isZero (restRefusal t c)) refl
 
 abbrev Apart : Table → Table → List Happening → Type 0
 Apart k t xs =
-    (run (mixed k t) xs ≡ mixed (afterOuters (t .tasks) k (outers xs)) (afterCalls t (calls xs)))
-    × (callReplies (mixed k t) xs ≡ repliesOf t (calls xs))
-    × (outerStatuses (mixed k t) xs ≡ map (outerStatus (t .tasks) k) (outers xs))
+    (run step (mixed k t) xs ≡ mixed (afterOuters (t .tasks) k (outers xs)) (afterCalls t (calls xs)))
+    × (callReplies step (mixed k t) xs ≡ repliesOf t (calls xs))
+    × (outerStatuses step (mixed k t) xs ≡ map (outerStatus (t .tasks) k) (outers xs))
 
 few : (k t : Table) → valid (mixed k t) ≡ true → t .tasks ≤ taskRoom
 few k t v = counts-fit _ _ _ (parts-of (mixed k t) v .counts) .0
 
-apart : (xs : List Happening) (k t : Table) → shaped k ≡ true → valid (mixed k t) ≡ true → Free (calls xs) → InTurn (mixed k t) xs → Apart k t xs
+apart : (xs : List Happening) (k t : Table) → shaped k ≡ true → valid (mixed k t) ≡ true → Free (calls xs) → InTurn step (mixed k t) xs → Apart k t xs
 apart [] k t sh v f i = (refl, refl, refl)
 apart (outside o ∷ xs) k t sh v f i =
     let n = t .tasks in
@@ -52,11 +53,11 @@ apart (outside o ∷ xs) k t sh v f i =
     apart xs (outerTable n k o) t (outer-shaped n (few k t v) k sh o)
     (subst (λ u. valid u ≡ true) (e .0) (valid-kept (mixed k t) (outerCall o) v))
     f
-    (subst (λ u. InTurn u xs) (e .0) i) in (
-      ap (λ u. run u xs) (e .0) ∙ ih .0,
-      ap (λ u. callReplies u xs) (e .0) ∙ ih .1,
+    (subst (λ u. InTurn step u xs) (e .0) i) in (
+      ap (λ u. run step u xs) (e .0) ∙ ih .0,
+      ap (λ u. callReplies step u xs) (e .0) ∙ ih .1,
       ap₂ (λ x l. x ∷ l) (e .1)
-          (ap (λ u. outerStatuses u xs) (e .0) ∙ ih .2 ∙ ap (λ g. map g (outers xs)) (fun-ext (outer-status n (few k t v) k sh o))),
+          (ap (λ u. outerStatuses step u xs) (e .0) ∙ ih .2 ∙ ap (λ g. map g (outers xs)) (fun-ext (outer-status n (few k t v) k sh o))),
     )
 apart (own c ∷ xs) k t sh v f i =
     let e = step-call k t c (f .0) v (i .0) in
@@ -65,19 +66,19 @@ apart (own c ∷ xs) k t sh v f i =
     apart xs k (callTable t c) sh
     (subst (λ u. valid u ≡ true) (e .0) (valid-kept (mixed k t) c v))
     (f .1)
-    (subst (λ u. InTurn u xs) (e .0) (i .1)) in (
-      ap (λ u. run u xs) (e .0) ∙ ih .0 ∙ ap (λ n. mixed (afterOuters n k (outers xs)) (afterCalls (callTable t c) (calls xs))) same,
-      ap₂ (λ x l. x ∷ l) (e .1) (ap (λ u. callReplies u xs) (e .0) ∙ ih .1),
-      ap (λ u. outerStatuses u xs) (e .0) ∙ ih .2 ∙ ap (λ n. map (outerStatus n k) (outers xs)) same,
+    (subst (λ u. InTurn step u xs) (e .0) (i .1)) in (
+      ap (λ u. run step u xs) (e .0) ∙ ih .0 ∙ ap (λ n. mixed (afterOuters n k (outers xs)) (afterCalls (callTable t c) (calls xs))) same,
+      ap₂ (λ x l. x ∷ l) (e .1) (ap (λ u. callReplies step u xs) (e .0) ∙ ih .1),
+      ap (λ u. outerStatuses step u xs) (e .0) ∙ ih .2 ∙ ap (λ n. map (outerStatus n k) (outers xs)) same,
     )
 
 agree : (k t : Table) (xs ys : List Happening) → shaped k ≡ true → Free (calls xs) → calls xs ≡ calls ys → List·Permᴰ (outers xs) (outers ys)
-    → valid (mixed k t) ≡ true → InTurn (mixed k t) xs → InTurn (mixed k t) ys → Agree (mixed k t) xs ys
+    → valid (mixed k t) ≡ true → InTurn step (mixed k t) xs → InTurn step (mixed k t) ys → Agree step (mixed k t) xs ys
 agree k t xs ys sh f c p v i j =
     let n = t .tasks in
     let x = apart xs k t sh v f i in
     let y = apart ys k t sh v (subst Free c f) j in
-    let first : outerStatus n k ≡ statusFirst (mixed k t) = fun-ext (λ o. sym (step-outer k t v o .1)) in (
+    let first : outerStatus n k ≡ statusFirst step (mixed k t) = fun-ext (λ o. sym (step-outer k t v o .1)) in (
       x .0 ∙ ap₂ mixed (outers-permuted n (few k t v) p k sh) (ap (afterCalls t) c) ∙ sym (y .0),
       x .1 ∙ ap (repliesOf t) c ∙ sym (y .1),
       x .2 ∙ ap (λ g. map g (outers xs)) first,
@@ -86,7 +87,7 @@ agree k t xs ys sh f c p v i j =
 
 pub demand3 : Demand3
 demand3 t xs ys v f c p i j =
-    subst (λ u. valid u ≡ true → InTurn u xs → InTurn u ys → Agree u xs ys) (sym (valid-mixed t v))
+    subst (λ u. valid u ≡ true → InTurn step u xs → InTurn step u ys → Agree step u xs ys) (sym (valid-mixed t v))
     (agree t t xs ys (parts-of t v .shape) f c p)
     v
     i

@@ -20,11 +20,11 @@ use Rattle.theorems.proofs.Signals.{bad, signalStatus, signalTable, hea
 
 abbrev pub outerStatus : ℕ → Table → Outer → ℕ
 outerStatus n t (signal s) = signalStatus n t s
-outerStatus n t tick = 0
+outerStatus n t (tick m) = 0
 
 abbrev pub outerTable : ℕ → Table → Outer → Table
 outerTable n t (signal s) = signalTable n t s
-outerTable n t tick = ticked t
+outerTable n t (tick m) = ticked t
 
 -- ---- a tick and a signal
 
@@ -67,19 +67,19 @@ module _ (n : ℕ) (few : n ≤ taskRoom) (t : Table) (shape : shaped t ≡ true
 
   pub outer-shaped : (o : Outer) → shaped (outerTable n t o) ≡ true
   outer-shaped (signal s) = signal-shaped n few t shape s
-  outer-shaped tick = ticked-shaped t ∙ shape
+  outer-shaped (tick m) = ticked-shaped t ∙ shape
 
   -- neither changes the other's status
   pub outer-status : (o p : Outer) → outerStatus n (outerTable n t o) p ≡ outerStatus n t p
   outer-status (signal s) (signal s′) = status-same n few t shape s s′
-  outer-status tick (signal s) = tick-status s
-  outer-status o tick = refl
+  outer-status (tick m) (signal s) = tick-status s
+  outer-status o (tick m) = refl
 
   pub outer-comm : (o p : Outer) → outerTable n (outerTable n t o) p ≡ outerTable n (outerTable n t p) o
   outer-comm (signal s) (signal s′) = signal-comm n few t shape s s′
-  outer-comm (signal s) tick = tick-signal s
-  outer-comm tick (signal s) = sym (tick-signal s)
-  outer-comm tick tick = refl
+  outer-comm (signal s) (tick m) = tick-signal s
+  outer-comm (tick m) (signal s) = sym (tick-signal s)
+  outer-comm (tick m) (tick m′) = refl
 
 -- ---- many
 

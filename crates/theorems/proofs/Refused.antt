@@ -1,30 +1,16 @@
--- One answer and no second; refused exactly when a listed reason holds, with the first such number.
+-- Refused exactly when a listed reason holds, with the first such number: calls and queries.
 use Prim.Native.Nat.{ℕ}
 use mathlib.Core.Path.{_≡_, refl, sym, ap, _∙_}
-use mathlib.Core.Logic.{_≢_}
+use mathlib.Core.Logic.{_≢_, _↔_}
 use mathlib.Core.Bool.{Bool, true, false}
 use mathlib.Core.List.{List, [], _∷_, _++_}
 use borrow.Author.Tests.{ne-eqb}
 use Rattle.rules.specs.Words.{Reason, first, None}
-use Rattle.rules.specs.Refusals.{reasons, refusal}
+use Rattle.rules.specs.Refusals.{reasons, refusal, arrivedReasons, objectReasons}
+use Rattle.rules.specs.Queries.{arrivedQuery, emptyQuery, fullQuery, priorityQuery, stateQuery}
 use Rattle.rules.specs.Step.{step}
 use Rattle.rules.proofs.Refusals.{accepted-none}
-use Rattle.theorems.specs.Refused.{One, OneAnswer, FirstIs, RefusedExactly, AcceptedExactly, RefusedDone}
-
-pub one {ℓ} : {A : Type ℓ} (x : A) → One {A = A} (λ d. d ≡ x)
-one x = (x, refl, λ e h. h)
-
-pub one-answer : OneAnswer
-one-answer =
-    record {
-      call = λ t c. one _;
-      fresh-table = λ tasks regions queues priorities bounds. one _;
-      arrived = λ t caller list operator. one _;
-      empty = λ t queue. one _;
-      full = λ t queue. one _;
-      priority = λ t task. one _;
-      state = λ t task. one _;
-    }
+use Rattle.theorems.specs.Refused.{FirstIs, RefusedExactly, AcceptedExactly, RefusedDone, QueriesRefusedExactly}
 
 first-is : (rs : List Reason) (status : ℕ) → status ≢ 0 → first rs ≡ status → FirstIs rs status
 first-is [] status n h = absurd (n (sym h))
@@ -51,9 +37,12 @@ passed (r ∷ rs) ss n = rw (n .0) (passed rs ss (n .1))
 is-first : (rs : List Reason) (status : ℕ) → FirstIs rs status → first rs ≡ status
 is-first rs status f = ap first (f .split) ∙ passed (f .before) _ (f .none) ∙ rw (f .applies) (f .says)
 
+exactly : (rs : List Reason) (status : ℕ) → status ≢ 0 → (first rs ≡ status) ↔ FirstIs rs status
+exactly rs status n = (first-is rs status n, is-first rs status)
+
 pub refused-exactly : RefusedExactly
 unfolding refusal
-refused-exactly t c status n = (first-is (reasons t c) status n, is-first (reasons t c) status)
+refused-exactly t c status n = exactly (reasons t c) status n
 
 pub accepted-exactly : AcceptedExactly
 accepted-exactly = accepted-none
@@ -61,3 +50,14 @@ accepted-exactly = accepted-none
 pub refused-done : RefusedDone
 unfolding step
 refused-done t c n = rw (ne-eqb (refusal t c) 0 n)
+
+pub queries-refused-exactly : QueriesRefusedExactly
+unfolding arrivedQuery emptyQuery fullQuery priorityQuery stateQuery
+queries-refused-exactly =
+    record {
+      arrived = λ t caller list operator. exactly (arrivedReasons t caller list operator);
+      empty = λ t queue. exactly (objectReasons t (t .queues) queue);
+      full = λ t queue. exactly (objectReasons t (t .queues) queue);
+      priority = λ t task. exactly (objectReasons t (t .tasks) task);
+      state = λ t task. exactly (objectReasons t (t .tasks) task);
+    }

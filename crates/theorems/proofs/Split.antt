@@ -24,7 +24,7 @@ use Rattle.rules.specs.Step.{step}
 use Rattle.rules.proofs.Validity.{parts-of}
 use Rattle.exclusion.specs.Marks.{passesSignal}
 use Rattle.exclusion.proofs.Table.{passes-cases}
-use Rattle.theorems.specs.Happenings.{Signal, Outer, signal, tick, outerCall, Reply, reply, TickAccepted}
+use Rattle.theorems.specs.Happenings.{Signal, Tick, Outer, signal, tick, outerCall, Reply, reply, TickAccepted}
 use Rattle.theorems.proofs.Kept.{numbered}
 use Rattle.theorems.proofs.Timers.{ring}
 use Rattle.theorems.proofs.Signals.{bad, signalStatus, signalTable}
@@ -95,13 +95,13 @@ module _ (k t : Table) (v : valid (mixed k t) ≡ true) where
       go false true h e = (simp (v, h, e), simp (v, h, e))
       go false false h e = (simp (v, h, e), simp (v, h, e))
 
-  step-tick : Came tick
+  step-tick : (m : Tick) → Came (tick m)
   unfolding step refusal reasons missing wrongState leaves effect
-  step-tick = (simp v (ticked-mixed k t), simp v)
+  step-tick m = (simp v (ticked-mixed k t), simp v)
 
   pub step-outer : (o : Outer) → Came o
   step-outer (signal s) = step-signal s
-  step-outer tick = step-tick
+  step-outer (tick m) = step-tick m
 
 -- a TICK from outside, whatever its numbers say
 pub tick-done : (t : Table) (c : Call) → valid t ≡ true → c .caller ≡ outside → c .operation ≡ TICK → step t c ≡ done (settled (ticked t)) 0 0 0
@@ -109,7 +109,7 @@ unfolding step refusal reasons missing wrongState leaves effect
 tick-done t c v who is = simp (v, who, is)
 
 pub tick-accepted : TickAccepted
-tick-accepted t v = ap (λ d. d .answer .status) (tick-done t (outerCall tick) v refl refl)
+tick-accepted t n v = ap (λ d. d .answer .status) (tick-done t (outerCall (tick n)) v refl refl)
 
 -- ---- a call that passes SIGNAL
 

@@ -1,5 +1,6 @@
 -- What is shown of the rules, as statements that can be read without their proofs.
 pub mod Kept
+pub mod Listed
 pub mod Happenings
 pub mod Refused
 pub mod Running
