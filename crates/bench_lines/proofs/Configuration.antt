@@ -8,7 +8,7 @@ use lib.Dec.{eqb, ltb, leb}
 use lib.ListN.{length, take, drop, getD, set, replicate, length-drop}
 use lib.Seq.{take-length, take-all, length-take-le, take-append-le, drop-append-le}
 use borrow.Author.Tests.{lt-ltb, le-leb, eq-eqb, ne-eqb, leb-true, leb-false, not-true, not-false}
-use Rattle.rules.specs.Numbers.{taskRoom, queueRoom}
+use Rattle.rules.specs.Numbers.{taskRoom, priorityEnd, queueRoom}
 use Rattle.rules.specs.Words.{all, every, padded}
 use Rattle.rules.specs.Validity.{countsInRange, boundInRange}
 use Rattle.rules.specs.Answers.{done, refused}
@@ -41,13 +41,13 @@ numbers-at (suc i) (x ∷ y ∷ xs) h =
     let three : suc (suc (2 * i)) + 1 ≡ suc (suc (2 * i + 1)) = omega arith in
     rw (two, three) (numbers-at i xs (omega arith))
 
-pub numbers-small : (xs : List ℕ) → every (λ n. ltb n 256) (numbers xs) ≡ true
+pub numbers-small : (xs : List ℕ) → every (λ n. ltb n priorityEnd) (numbers xs) ≡ true
 unfolding numbers
-numbers-small [] = every-nil (λ n. ltb n 256)
-numbers-small (x ∷ []) = every-nil (λ n. ltb n 256)
+numbers-small [] = every-nil (λ n. ltb n priorityEnd)
+numbers-small (x ∷ []) = every-nil (λ n. ltb n priorityEnd)
 numbers-small (x ∷ y ∷ xs) =
-    every-cons (λ n. ltb n 256) (value (x ∷ y ∷ [])) (numbers xs)
-    (lt-ltb (value (x ∷ y ∷ [])) 256 (two-digits-small x y))
+    every-cons (λ n. ltb n priorityEnd) (value (x ∷ y ∷ [])) (numbers xs)
+    (lt-ltb (value (x ∷ y ∷ [])) priorityEnd (two-digits-small x y))
     (numbers-small xs)
 
 -- the array that they are read into
@@ -95,7 +95,7 @@ part-padded room from to xs h k =
 
 -- the tests that are left where counts and lists are right
 fresh-bounds : (tasks regions queues : ℕ) (priorities bounds : List ℕ) → countsInRange tasks regions queues ≡ true → length priorities ≡ tasks
-    → length bounds ≡ queues → every (λ n. ltb n 256) priorities ≡ true
+    → length bounds ≡ queues → every (λ n. ltb n priorityEnd) priorities ≡ true
     → fresh tasks regions queues priorities bounds
     ≡ cond (every boundInRange bounds) (done (freshTable tasks regions queues priorities bounds) 0 0 0) (refused zeroTable 20)
 unfolding fresh configurationInRange all
@@ -152,7 +152,7 @@ module _ (line a : List ℕ) (e : a ≡ padded numberRoom 0 (numbers line)) (p :
           part-padded numberRoom (3 + tasks) (3 + tasks + queues) (numbers line) (omega arith) (omega arith) ∙ ap (λ n. take n (drop (3 + tasks) (numbers line))) two in
           let so-many : length (prioritiesIn line) ≡ tasks = length-take-le tasks (drop 3 (numbers line)) (rw length-drop (omega arith)) in
           let so-long : length (boundsIn line) ≡ queues = length-take-le queues (drop (3 + tasks) (numbers line)) (rw length-drop (omega arith)) in
-          let small = every-take (λ n. ltb n 256) tasks (drop 3 (numbers line)) (every-drop (λ n. ltb n 256) 3 (numbers line) (numbers-small line)) in
+          let small = every-take (λ n. ltb n priorityEnd) tasks (drop 3 (numbers line)) (every-drop (λ n. ltb n priorityEnd) 3 (numbers line) (numbers-small line)) in
           let table = fresh-bounds tasks (getD (numbers line) 1 0) queues (prioritiesIn line) (boundsIn line) right so-many so-long small in
           rw (at 0, at 1, at 2, e, priorities, bounds, table) (go (every boundInRange (boundsIn line)) refl fits right)
         where

@@ -1,6 +1,6 @@
 -- Laws of the first line, by what the reader found.
 use Prim.Native.Nat.{ℕ}
-use mathlib.Core.Path.{_≡_, refl, sym, ap, _∙_}
+use mathlib.Core.Path.{_≡_, sym, ap, _∙_}
 use mathlib.Core.List.{List}
 use Rattle.rules.specs.declared.Done.{Done}
 use Rattle.lines.specs.declared.ends.Line.{Line}

@@ -11,7 +11,7 @@ use Rattle.rules.specs.Words.{every}
 use Rattle.digits.specs.Digits.{isDigit}
 use Rattle.lines.specs.Ends.{longest}
 use Rattle.frames.specs.Calls.{callLength, callIn}
-use Rattle.frames.specs.CallLine.{requestFor, noRequest}
+use Rattle.frames.specs.CallLine.{requestFor}
 use Rattle.bench_lines.specs.declared.start.Standing.{Standing}
 use Rattle.bench_lines.specs.First.{plain, firstReasons, firstDone}
 use Rattle.bench_lines.specs.Steps.{callLine, tooLong, lineDone, requestIn, requestDone}
@@ -21,10 +21,6 @@ use Rattle.bench_lines.specs.Steps.{callLine, tooLong, lineDone, request
 pub call-requested : (line : List ℕ) → length line ≡ callLength → every isDigit line ≡ true → requestIn line ≡ requestFor (callIn line)
 unfolding requestIn plain
 call-requested line long digits = simp (long, digits)
-
-pub too-long-request : (line : List ℕ) → longest < length line → requestIn line ≡ noRequest
-unfolding requestIn plain
-too-long-request line h = simp (lt-leb (length line) longest h)
 
 -- ---- what that does
 

@@ -1,6 +1,7 @@
 // How a session begins: where it stands before the first line, what a refused first line leaves, and the answer of a malformed line.
 use rules::Answer;
 use rules::Done;
+use rules::NOBODY;
 use rules::Table;
 use tables::fresh;
 ghost use mathlib.Core.Path.{_≡_};
@@ -41,7 +42,7 @@ pub(crate) fn first_refused(status: u8) -> Done
             status: status,
             value: 0,
             key: 0,
-            elected: 255,
+            elected: NOBODY,
         },
     }
 }
@@ -50,7 +51,7 @@ pub(crate) fn first_refused(status: u8) -> Done
 pub fn malformed_answer(tasks: u8, elected: u8) -> Answer
     ensures { λ r. ⌜ r ≡ malformedAnswer tasks elected ⌝ }
 {
-    let who = if tasks == 0 { 255 } else { elected };
+    let who = if tasks == 0 { NOBODY } else { elected };
     Answer {
         status: 21,
         value: 0,

@@ -4,7 +4,6 @@ use mathlib.Core.Path.{_≡_, refl, sym, ap, _∙_}
 use mathlib.Core.Bool.{Bool, true, false, cond, not, _&&_, true≢false}
 use mathlib.Core.List.{List, [], _∷_, _++_, append-assoc, append-nil}
 use native.Mathlib.Omega.{arith}
-use native.Mathlib.Nat.{add-comm}
 use lib.Dec.{leb}
 use lib.ListN.{length, take, drop, length-append, length-drop, take-append-drop}
 use lib.Seq.{take-nil, take-at, drop-at, drop-drop, length-take-le}
@@ -26,7 +25,7 @@ use Rattle.frames.proofs.Written.{answer-length}
 use Rattle.bench_lines.specs.declared.start.Standing.{Standing}
 use Rattle.bench_lines.specs.declared.later.LaterLine.{LaterLine}
 use Rattle.bench_lines.specs.Start.{standing}
-use Rattle.bench_lines.specs.Steps.{malformed, lineDone, requestDone}
+use Rattle.bench_lines.specs.Steps.{malformed, requestDone}
 use Rattle.bench_lines.specs.Assuming.{IsDone}
 use Rattle.bench_lines.specs.Places.{firstLineAt, laterLineAt}
 use Rattle.bench_lines.proofs.Assuming.{still-known}
