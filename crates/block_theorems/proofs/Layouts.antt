@@ -13,7 +13,7 @@ use Rattle.rules.specs.Numbers.{taskRoom, regionRoom, queueRoom, storeSize, tim
 use Rattle.rules.specs.Words.{every}
 use Rattle.rules.proofs.Lists.{every-both, every-cons, every-nil}
 use Rattle.rules.proofs.Counts.{below-all}
-use Rattle.packing.specs.Bytes.{bytes, spread}
+use Rattle.packing.specs.Bytes.{halfWidth, wordWidth, bytes, spread}
 use Rattle.packing.specs.Timers.{timerWidth, unusedPlace, timersIn, timersBytes}
 use Rattle.packing.proofs.RoundTrips.{fits, bytes-length, bytes-small, spread-length, spread-small, numbers-spread, timers-length, timers-small, timers-read, timers-unused}
 use Rattle.layout.specs.Layout.{priorityPlace, statePlace, arrivedPlace, listPlace, operatorPlace, holderPlace, entriesPlace, boundPlace, lengthPlace, elementPlace, criterionPlace, ticksPlace, timersPlace, blockSize, part, unpacked, packed, unusedZero}
@@ -51,16 +51,16 @@ module _ (t : Table) where
       ∷ bytes 1 (t .elected)
       ∷ spread 1 (t .priority)
       ∷ spread 1 (t .state)
-      ∷ spread 2 (t .arrived)
-      ∷ spread 2 (t .list)
+      ∷ spread halfWidth (t .arrived)
+      ∷ spread halfWidth (t .list)
       ∷ spread 1 (t .operator)
       ∷ spread 1 (t .holder)
       ∷ spread 1 (t .entries)
       ∷ spread 1 (t .bound)
       ∷ spread 1 (t .length)
-      ∷ spread 4 (t .element)
+      ∷ spread wordWidth (t .element)
       ∷ spread 1 (t .criterion)
-      ∷ bytes 4 (t .ticks)
+      ∷ bytes wordWidth (t .ticks)
       ∷ timersBytes (t .timers)
       ∷ []
 
@@ -81,14 +81,14 @@ sizes =
     ∷ 1
     ∷ taskRoom
     ∷ taskRoom
-    ∷ 2 * taskRoom
-    ∷ 2 * taskRoom
+    ∷ halfWidth * taskRoom
+    ∷ halfWidth * taskRoom
     ∷ taskRoom
     ∷ regionRoom
     ∷ regionRoom
     ∷ queueRoom
     ∷ queueRoom
-    ∷ 4 * storeSize
+    ∷ wordWidth * storeSize
     ∷ storeSize
     ∷ 4
     ∷ timerWidth * timerRoom
@@ -176,12 +176,12 @@ same-table u t a b c d e f g h i j q k l m n o p =
     }
 
 module _ (t : Table) (s : Sized t) (f : Fitting t) where
-  ticks-read : getD (part ticksPlace 4 1 (packed t)) 0 0 ≡ t .ticks
+  ticks-read : getD (part ticksPlace wordWidth 1 (packed t)) 0 0 ≡ t .ticks
   unfolding bytes spread
-  ticks-read = ap (λ ns. getD ns 0 0) (column-read 4 1 ticksPlace (packed t) (t .ticks ∷ []) _ (from t s 15) refl ticks-fit)
+  ticks-read = ap (λ ns. getD ns 0 0) (column-read wordWidth 1 ticksPlace (packed t) (t .ticks ∷ []) _ (from t s 15) refl ticks-fit)
     where
-      ticks-fit : every (fits 4) (t .ticks ∷ []) ≡ true
-      ticks-fit = every-cons (fits 4) (t .ticks) [] (f .ticks) (every-nil (fits 4))
+      ticks-fit : every (fits wordWidth) (t .ticks ∷ []) ≡ true
+      ticks-fit = every-cons (fits wordWidth) (t .ticks) [] (f .ticks) (every-nil (fits wordWidth))
 
   timers-back : timersIn timerRoom (drop timersPlace (packed t)) ≡ t .timers
   timers-back = rw (from t s 16, ← s .timers) (timers-read (t .timers) [] (f .timers))
@@ -196,14 +196,14 @@ module _ (t : Table) (s : Sized t) (f : Fitting t) where
       (byte-read (packed t) _ 3 _ (from t s 3) (f .elected))
       (column-read 1 taskRoom priorityPlace (packed t) _ _ (from t s 4) (s .priority) (f .priority))
       (column-read 1 taskRoom statePlace (packed t) _ _ (from t s 5) (s .state) (f .state))
-      (column-read 2 taskRoom arrivedPlace (packed t) _ _ (from t s 6) (s .arrived) (f .arrived))
-      (column-read 2 taskRoom listPlace (packed t) _ _ (from t s 7) (s .list) (f .list))
+      (column-read halfWidth taskRoom arrivedPlace (packed t) _ _ (from t s 6) (s .arrived) (f .arrived))
+      (column-read halfWidth taskRoom listPlace (packed t) _ _ (from t s 7) (s .list) (f .list))
       (column-read 1 taskRoom operatorPlace (packed t) _ _ (from t s 8) (s .operator) (f .operator))
       (column-read 1 regionRoom holderPlace (packed t) _ _ (from t s 9) (s .holder) (f .holder))
       (column-read 1 regionRoom entriesPlace (packed t) _ _ (from t s 10) (s .entries) (f .entries))
       (column-read 1 queueRoom boundPlace (packed t) _ _ (from t s 11) (s .bound) (f .bound))
       (column-read 1 queueRoom lengthPlace (packed t) _ _ (from t s 12) (s .lengths) (f .lengths))
-      (column-read 4 storeSize elementPlace (packed t) _ _ (from t s 13) (s .element) (f .element))
+      (column-read wordWidth storeSize elementPlace (packed t) _ _ (from t s 13) (s .element) (f .element))
       (column-read 1 storeSize criterionPlace (packed t) _ _ (from t s 14) (s .criterion) (f .criterion))
       ticks-read
       timers-back

@@ -11,6 +11,8 @@ pub use place::TICKS;
 pub use place::TIMER;
 pub use read::front_in;
 pub use read::store_in;
+pub use read::unpack;
 pub use read::unused_zero;
+pub use write::pack;
 pub use write::pack_front;
 pub use write::pack_whole;

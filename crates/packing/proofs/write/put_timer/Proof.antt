@@ -33,7 +33,9 @@ put-word-requires : tie.Need-put-word-requires
 put-word-requires c κs = search needs
 
 returns : tie.Need-returns
-returns c = timer-stored _ ((c .before .before .before .before) .before .args .p .now) _ ((c .before .before .before .before) .before .pre) (omega arith) (omega arith) (omega arith) (c .before .before .put-word .ensures)
+returns c =
+    let start = c .before .before .before .before .before in
+    timer-stored _ (start .args .p .now) _ (start .pre) (omega arith) (omega arith) (omega arith) (c .before .before .put-word .ensures)
 
 same-length : tie.Need-same-length
 same-length c = ap length (returns c) ∙ timer-length _ ∙ omega arith
