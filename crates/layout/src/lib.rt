@@ -3,12 +3,7 @@ mod place;
 mod read;
 mod write;
 
-pub use place::ARRIVED;
-pub use place::ELEMENT;
-pub use place::LIST;
 pub use place::SIZE;
-pub use place::TICKS;
-pub use place::TIMER;
 pub use read::front_in;
 pub use read::store_in;
 pub use read::unpack;

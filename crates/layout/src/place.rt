@@ -13,9 +13,9 @@ pub(crate) const PRIORITY: usize = 4;
 
 pub(crate) const STATE: usize = PRIORITY + TASKS;
 
-pub const ARRIVED: usize = STATE + TASKS;
+pub(crate) const ARRIVED: usize = STATE + TASKS;
 
-pub const LIST: usize = ARRIVED + HALF_WIDTH * TASKS;
+pub(crate) const LIST: usize = ARRIVED + HALF_WIDTH * TASKS;
 
 pub(crate) const OPERATOR: usize = LIST + HALF_WIDTH * TASKS;
 
@@ -27,12 +27,12 @@ pub(crate) const BOUND: usize = ENTRIES + REGIONS;
 
 pub(crate) const LENGTH: usize = BOUND + QUEUES;
 
-pub const ELEMENT: usize = LENGTH + QUEUES;
+pub(crate) const ELEMENT: usize = LENGTH + QUEUES;
 
 pub(crate) const CRITERION: usize = ELEMENT + WORD_WIDTH * STORE;
 
-pub const TICKS: usize = CRITERION + STORE;
+pub(crate) const TICKS: usize = CRITERION + STORE;
 
-pub const TIMER: usize = TICKS + WORD_WIDTH;
+pub(crate) const TIMER: usize = TICKS + WORD_WIDTH;
 
 pub const SIZE: usize = TIMER + TIMER_WIDTH * TIMERS;
