@@ -24,23 +24,23 @@ use Rattle.block_theorems.proofs.Fitting.{Sized, Fitting}
 
 -- ---- the parts of a block, one behind the other
 
-abbrev joined : List (List ℕ) → List ℕ
-joined [] = []
-joined (p ∷ ps) = p ++ joined ps
+abbrev appended : List (List ℕ) → List ℕ
+appended [] = []
+appended (p ∷ ps) = p ++ appended ps
 
 abbrev total : List ℕ → ℕ
 total [] = 0
 total (n ∷ ns) = n + total ns
 
-length-joined : (ps : List (List ℕ)) → length (joined ps) ≡ total (map length ps)
-length-joined [] = refl
-length-joined (p ∷ ps) = length-append p (joined ps) ∙ ap (λ n. length p + n) (length-joined ps)
+length-appended : (ps : List (List ℕ)) → length (appended ps) ≡ total (map length ps)
+length-appended [] = refl
+length-appended (p ∷ ps) = length-append p (appended ps) ∙ ap (λ n. length p + n) (length-appended ps)
 
 -- what stands behind the first k
-drop-joined : (k : ℕ) (ps : List (List ℕ)) → drop (total (take k (map length ps))) (joined ps) ≡ joined (drop k ps)
-drop-joined zero ps = refl
-drop-joined (suc k) [] = refl
-drop-joined (suc k) (p ∷ ps) = drop-append-add p (joined ps) _ ∙ drop-joined k ps
+drop-appended : (k : ℕ) (ps : List (List ℕ)) → drop (total (take k (map length ps))) (appended ps) ≡ appended (drop k ps)
+drop-appended zero ps = refl
+drop-appended (suc k) [] = refl
+drop-appended (suc k) (p ∷ ps) = drop-append-add p (appended ps) _ ∙ drop-appended k ps
 
 module _ (t : Table) where
   abbrev parts : List (List ℕ)
@@ -64,9 +64,9 @@ module _ (t : Table) where
       ∷ timersBytes (t .timers)
       ∷ []
 
-  packed-joined : packed t ≡ joined parts
+  packed-appended : packed t ≡ appended parts
   unfolding packed
-  packed-joined = simp (append-assoc, append-nil)
+  packed-appended = simp (append-assoc, append-nil)
 
   pub packed-small : areBytes (packed t) ≡ true
   unfolding packed
@@ -116,10 +116,10 @@ module _ (t : Table) (s : Sized t) where
       )
 
   pub packed-size : length (packed t) ≡ blockSize
-  packed-size = ap length (packed-joined t) ∙ length-joined (parts t) ∙ ap total parts-sizes
+  packed-size = ap length (packed-appended t) ∙ length-appended (parts t) ∙ ap total parts-sizes
 
-  from : (k : ℕ) → drop (total (take k sizes)) (packed t) ≡ joined (drop k (parts t))
-  from k = rw (packed-joined t, ← parts-sizes) (drop-joined k (parts t))
+  from : (k : ℕ) → drop (total (take k sizes)) (packed t) ≡ appended (drop k (parts t))
+  from k = rw (packed-appended t, ← parts-sizes) (drop-appended k (parts t))
 
 -- ---- packed, then unpacked
 

@@ -10,7 +10,6 @@ use lib.ListN.{length, set, List·getD-map}
 use lib.Seq.{getD-set-same, getD-set-other}
 use borrow.Author.Tests.{eqb-true, eqb-false, ne-eqb, ltb-true, leb-true, lt-ltb, le-leb, not-true}
 use Rattle.rules.specs.declared.Timer.{Timer}
-use Rattle.rules.specs.declared.Table.{Table}
 use Rattle.rules.specs.Numbers.{eventEnd, tickEnd, longestDelay}
 use Rattle.rules.specs.Words.{every, altered}
 use Rattle.rules.specs.Tasks.{stopped}
@@ -18,7 +17,7 @@ use Rattle.rules.specs.Timers.{later, ahead, idle, isArmed, asArmed, armedBy, d
 use Rattle.rules.specs.Tables.{timerOf}
 use Rattle.rules.specs.Validity.{timerRight, timersRight}
 use Rattle.rules.specs.Refusals.{stoppedAt}
-use Rattle.rules.specs.Effects.{stoppedTable}
+use Rattle.theorems.specs.Tasks.{DisarmIdle, StopDisarms}
 use Rattle.rules.proofs.Bools.{given, shown, and-left, and-right, both, not-intro}
 use Rattle.rules.proofs.Lists.{every-head, every-tail, every-cons, every-nil}
 use Rattle.rules.proofs.Clock.{later-fits, ahead-later, ahead-next, reached}
@@ -192,7 +191,7 @@ disarm-others task r n = go (isArmed r) refl
     go true a = simp (a, ne-eqb (r .owner) task (λ s. eqb-false task (r .owner) n (sym s)))
     go false a = simp a
 
-pub disarm-idle : (task : ℕ) → disarmed task idle ≡ idle
+pub disarm-idle : DisarmIdle
 disarm-idle task = refl
 
 -- and all of them
@@ -203,7 +202,7 @@ disarm-own task r = go (armedBy task r) refl
     go true a = rw a refl
     go false a = rw a a
 
-pub stop-disarms : (t : Table) (task i : ℕ) → armedBy task (timerOf (stoppedTable task t) i) ≡ false
+pub stop-disarms : StopDisarms
 stop-disarms t task i = ap (armedBy task) (List·getD-map (disarmed task) (t .timers) i idle) ∙ disarm-own task (timerOf t i)
 
 -- ---- all timers

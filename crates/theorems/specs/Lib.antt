@@ -3,3 +3,4 @@ pub mod Kept
 pub mod Happenings
 pub mod Refused
 pub mod Running
+pub mod Tasks
