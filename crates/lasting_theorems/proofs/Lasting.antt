@@ -150,10 +150,10 @@ module _ (t : Table) (p : Parts t) (c : Call) where
   effect-arrives o e = go (c .operation) e o
     where
       go : (n : ℕ) → n ≡ SIGNAL → Accepted t (numbered n c) → arrivedAt (byOperation nothing n operations t c .table) (c .a) (c .b) ≡ true
-      go n s a = rw s (heard (rw s at a))
+      go n s a = rw s (arrives (rw s at a))
         where
-          heard : Accepted t (numbered SIGNAL c) → arrivedAt (changed (c .b) (signalled (c .a)) t) (c .a) (c .b) ≡ true
-          heard a =
+          arrives : Accepted t (numbered SIGNAL c) → arrivedAt (changed (c .b) (signalled (c .a)) t) (c .a) (c .b) ≡ true
+          arrives a =
               let l = there (t .tasks) (c .b) (or-right (absent eventEnd (c .a)) _ (a .nothing-missing)) in
               ap (λ r. has (c .a) (r .arrived)) (changed-same t (p .shape) (c .b) (below-room t p (c .b) l) (signalled (c .a)))
               ∙ rw (signalled-arrived (c .a) (taskOf t (c .b))) (has-arrived (c .a) (taskOf t (c .b) .arrived))

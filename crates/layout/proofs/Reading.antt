@@ -25,7 +25,7 @@ module _ (block : List ℕ) (size : length block ≡ blockSize) where
   unfolding timersTaken unpacked
   filled-timers rs e = e ∙ rw size
 
-  pub unpacked-is : (priority state arrived list operator holder entries bound lengths element criterion ticks : List ℕ) (timers : List Timer)
+  unpacked-is : (priority state arrived list operator holder entries bound lengths element criterion ticks : List ℕ) (timers : List Timer)
       → priority ≡ taken 1 priorityPlace block (replicate taskRoom 0)
       → state ≡ taken 1 statePlace block (replicate taskRoom 0)
       → arrived ≡ taken halfWidth arrivedPlace block (replicate taskRoom 0)
@@ -90,7 +90,7 @@ module _ (block : List ℕ) (size : length block ≡ blockSize) where
       ap frontOf
       (unpacked-is block size _ _ _ _ _ _ _ _ _ _ _ _ _ refl refl refl refl refl refl refl refl refl refl refl refl refl)
 
-  -- an array of the right length, whatever it held, filled from a place on
+  -- an array of the right length, whatever stood there, filled from a place on
   refilled : (place width count : ℕ) (old ns : List ℕ) → leb (place + width * count) blockSize ≡ true → length old ≡ count
       → ns ≡ taken width place block old → ns ≡ part place width count block
   unfolding taken

@@ -43,7 +43,7 @@ module _ (old : List ℕ) (size : length old ≡ blockSize) where
       record { long = rw (length-append, w .long, l); whole = rw (l, before, behind) }
 
   -- a column in the bytes that come next
-  pub column-next : (place width count : ℕ) {front block : List ℕ} (ns after : List ℕ) → Written place front old block → length ns ≡ count
+  column-next : (place width count : ℕ) {front block : List ℕ} (ns after : List ℕ) → Written place front old block → length ns ≡ count
       → leb (place + width * count) blockSize ≡ true → after ≡ put width place ns block
       → Written (place + width * count) (front ++ spread width ns) old after
   unfolding put
@@ -53,7 +53,7 @@ module _ (old : List ℕ) (size : length old ≡ blockSize) where
       let there : after ≡ over place (spread width ns) block = e ∙ rw (l, long, h) in
       rw there (over-next place (width * count) front block (spread width ns) w (rw (spread-length, l)))
 
-  pub timers-next : {front block : List ℕ} (rs : List Timer) (after : List ℕ) → Written timersPlace front old block → length rs ≡ timerRoom
+  timers-next : {front block : List ℕ} (rs : List Timer) (after : List ℕ) → Written timersPlace front old block → length rs ≡ timerRoom
       → after ≡ timersPut timersPlace rs block → after ≡ front ++ timersBytes rs
   unfolding timersPut
   timers-next {front} {block} rs after w l e =

@@ -35,7 +35,7 @@ unfolding bytes
 bytes-small zero n = every-nil isByte
 bytes-small (suc width) n = every-cons isByte (n % 256) (bytes width (n / 256)) (lt-ltb (n % 256) 256 (omega arith)) (bytes-small width (n / 256))
 
-pub number-bytes : (width n : ℕ) → fits width n ≡ true → number (bytes width n) ≡ n
+number-bytes : (width n : ℕ) → fits width n ≡ true → number (bytes width n) ≡ n
 unfolding number bytes
 number-bytes zero n h = let l = ltb-true n 1 h in omega arith
 number-bytes (suc width) n h =
@@ -43,7 +43,7 @@ number-bytes (suc width) n h =
     let ih = number-bytes width (n / 256) (lt-ltb (n / 256) (256 ^ width) (omega arith)) in
     omega arith
 
-pub bytes-number : (bs : List ℕ) → every isByte bs ≡ true → bytes (length bs) (number bs) ≡ bs
+bytes-number : (bs : List ℕ) → every isByte bs ≡ true → bytes (length bs) (number bs) ≡ bs
 unfolding number bytes
 bytes-number [] h = refl
 bytes-number (b ∷ bs) h =

@@ -48,8 +48,8 @@ pub record Counting (tasks : ℕ) (states : List ℕ) (ticks : ℕ) (r : Timer) 
   pub owner-there : r .owner < tasks
   pub awake : stoppedAt states (r .owner) ≡ false
   pub event-there : r .event < eventEnd
-  pub date-fits : r .date < tickEnd
-  pub to-come : 0 < ahead (r .date) ticks
+  date-fits : r .date < tickEnd
+  to-come : 0 < ahead (r .date) ticks
   pub near : ahead (r .date) ticks ≤ longestDelay
 
 module _ {tasks : ℕ} {states : List ℕ} {ticks : ℕ} (r : Timer) where
@@ -66,7 +66,7 @@ module _ {tasks : ℕ} {states : List ℕ} {ticks : ℕ} (r : Timer) where
         near = leb-true _ _ n;
       }
 
-  pub timer-shown : isArmed r ≡ true → Counting tasks states ticks r → timerRight tasks states ticks r ≡ true
+  timer-shown : isArmed r ≡ true → Counting tasks states ticks r → timerRight tasks states ticks r ≡ true
   unfolding timerRight
   timer-shown a c =
       rw a
@@ -195,7 +195,7 @@ pub disarm-idle : DisarmIdle
 disarm-idle task = refl
 
 -- and all of them
-pub disarm-own : (task : ℕ) (r : Timer) → armedBy task (disarmed task r) ≡ false
+disarm-own : (task : ℕ) (r : Timer) → armedBy task (disarmed task r) ≡ false
 disarm-own task r = go (armedBy task r) refl
   where
     go : (b : Bool) → armedBy task r ≡ b → armedBy task (disarmed task r) ≡ false

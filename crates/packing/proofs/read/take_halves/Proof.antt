@@ -5,7 +5,7 @@ use Prim.Native.Nat.{_-_, _*_}
 use mathlib.Core.Path.{refl, sym, _∙_}
 use borrow.Author.Tests.{not-true, not-false}
 use Rattle.packing.specs.Bytes.{halfWidth}
-use Rattle.packing.proofs.Turns.{TakingNumbers, numbers-start, numbers-more, numbers-end, numbers-none}
+use Rattle.packing.proofs.Loops.{TakingNumbers, numbers-start, numbers-more, numbers-end, numbers-none}
 use Rattle.packing.proofs.read.take_halves.Statement.{statement}
 use Rattle.packing.proofs.read.take_halves.Tie as tie
 

@@ -5,7 +5,7 @@ use Prim.Native.Nat.{_-_, _*_}
 use mathlib.Core.Path.{refl, sym, _∙_}
 use Rattle.rules.specs.Numbers.{timerRoom}
 use Rattle.packing.specs.Timers.{timerWidth, timersTaken}
-use Rattle.packing.proofs.Turns.{TakingTimers, timers-start, timers-more, timers-end}
+use Rattle.packing.proofs.Loops.{TakingTimers, timers-start, timers-more, timers-end}
 use Rattle.packing.proofs.read.timers_at.Statement.{statement}
 use Rattle.packing.proofs.read.timers_at.Tie as tie
 

@@ -1,7 +1,7 @@
 -- The number from each byte on is the byte and 256 times the number behind it.
 use borrow.Author.Needs.{needs}
 use native.Mathlib.Omega.{arith}
-use Rattle.packing.proofs.Single.{number-from, number-past}
+use Rattle.packing.proofs.OneNumber.{number-from, number-past}
 use Rattle.packing.proofs.read.word_in.Statement.{statement}
 use Rattle.packing.proofs.read.word_in.Tie as tie
 

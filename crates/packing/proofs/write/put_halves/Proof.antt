@@ -5,7 +5,7 @@ use Prim.Native.Nat.{_-_, _*_}
 use mathlib.Core.Path.{refl, sym, _∙_}
 use borrow.Author.Tests.{not-true, not-false}
 use Rattle.packing.specs.Bytes.{halfWidth}
-use Rattle.packing.proofs.Turns.{PuttingNumbers, spread-start, spread-more, spread-end, spread-none}
+use Rattle.packing.proofs.Loops.{PuttingNumbers, spread-start, spread-more, spread-end, spread-none}
 use Rattle.packing.proofs.write.put_halves.Statement.{statement}
 use Rattle.packing.proofs.write.put_halves.Tie as tie
 

@@ -4,7 +4,7 @@ use native.Mathlib.Omega.{arith}
 use mathlib.Core.Path.{ap, _∙_}
 use lib.ListN.{length, length-set}
 use Rattle.packing.proofs.RoundTrips.{timer-length}
-use Rattle.packing.proofs.Single.{timer-stored}
+use Rattle.packing.proofs.OneNumber.{timer-stored}
 use Rattle.packing.proofs.write.put_timer.Statement.{statement}
 use Rattle.packing.proofs.write.put_timer.Tie as tie
 

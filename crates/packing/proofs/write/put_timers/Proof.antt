@@ -6,7 +6,7 @@ use mathlib.Core.Path.{sym, _∙_}
 use borrow.Author.Tests.{not-true, not-false}
 use Rattle.rules.specs.Numbers.{timerRoom}
 use Rattle.packing.specs.Timers.{timerWidth, timersPut}
-use Rattle.packing.proofs.Turns.{PuttingTimers, timers-put-start, timers-put-more, timers-put-end}
+use Rattle.packing.proofs.Loops.{PuttingTimers, timers-put-start, timers-put-more, timers-put-end}
 use Rattle.packing.proofs.write.put_timers.Statement.{statement}
 use Rattle.packing.proofs.write.put_timers.Tie as tie
 
