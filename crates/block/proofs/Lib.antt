@@ -1,4 +1,4 @@
 -- Laws that the proofs of this crate's functions cite.
-mod Made
-mod Called
-mod Asked
+mod FreshBlock
+mod CallBlock
+mod QueryBlock

@@ -9,6 +9,8 @@ use layout::unused_zero;
 use packing::NOT_A_TABLE;
 use packing::answer_number;
 use rules::Call;
+use rules::RETRIEVE;
+use rules::SEND;
 use rules::STORE;
 ghost use mathlib.Core.Path.{_≡_};
 ghost use Rattle.layout.specs.Calls.{callOf, callBlock};
@@ -53,7 +55,7 @@ pub extern "C" fn tankwesho_call(
         return n;
     }
     let f = d.front;
-    if (operation == 8) | (operation == 9) {
+    if (operation == SEND) | (operation == RETRIEVE) {
         pack_whole(f, &element, &criterion, block);
         return n;
     }

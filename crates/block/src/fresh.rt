@@ -1,24 +1,11 @@
 // Make fresh, on a block.
 use layout::SIZE;
-use layout::pack_whole;
+use layout::pack;
 use packing::NOT_A_TABLE;
 use packing::answer_number;
-use rules::Table;
 use tables::fresh;
-use tables::front_of;
 ghost use mathlib.Core.Path.{_≡_};
-ghost use lib.ListN.{length};
-ghost use Rattle.layout.specs.Layout.{blockSize, packed};
 ghost use Rattle.layout.specs.Calls.{freshBlock};
-
-fn pack(t: Table, block: &mut [u8])
-    requires { ⌜ length (now block) ≡ blockSize ⌝ }
-    ensures { λ _. ⌜ now (block .exit) ≡ packed t ⌝ }
-{
-    let element = t.element;
-    let criterion = t.criterion;
-    pack_whole(front_of(t), &element, &criterion, block);
-}
 
 // A block of another size is not touched; any other holds the fresh table, or zeros after 20.
 #[no_mangle]

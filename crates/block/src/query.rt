@@ -5,34 +5,19 @@ use executive::full;
 use executive::priority;
 use executive::state;
 use layout::SIZE;
-use layout::front_in;
-use layout::store_in;
+use layout::unpack;
 use layout::unused_zero;
 use packing::NOT_A_TABLE;
 use packing::answer_number;
 use rules::Answer;
-use rules::STORE;
+use rules::NOBODY;
 use rules::Table;
-use tables::table_of;
 use validity::is_valid;
 ghost use mathlib.Core.Path.{_≡_};
 ghost use mathlib.Core.Bool.{cond};
-ghost use lib.ListN.{length};
 ghost use Rattle.rules.specs.Validity.{valid};
 ghost use Rattle.rules.specs.Answers.{replied};
-ghost use Rattle.layout.specs.Layout.{blockSize, unpacked};
 ghost use Rattle.layout.specs.Calls.{queryOrTen, queryBlock, notATable};
-
-// The whole table.
-fn unpack(block: &[u8]) -> Table
-    requires { ⌜ length (now block) ≡ blockSize ⌝ }
-    ensures { λ r. ⌜ r ≡ unpacked (now (block .entry)) ⌝ }
-{
-    let mut element = [0u32; STORE];
-    let mut criterion = [0u8; STORE];
-    store_in(block, &mut element, &mut criterion);
-    table_of(front_in(block), element, criterion)
-}
 
 // What a number above 4 gets: 10 comes before 11.
 fn unknown_query(t: Table) -> Answer
@@ -50,7 +35,7 @@ fn unknown_query(t: Table) -> Answer
         status: 10,
         value: 0,
         key: 0,
-        elected: 255,
+        elected: NOBODY,
     }
 }
 

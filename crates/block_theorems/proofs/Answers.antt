@@ -76,7 +76,7 @@ first-low (r ∷ rs) h = go (r .applies) refl (first-low rs (every-tail lowStatu
     go true e ih = rw e (ltb-true (r .status) byteEnd (every-head lowStatus r rs h))
     go false e ih = rw e ih
 
-pub refusal-low : (t : Table) (c : Call) → refusal t c < byteEnd
+refusal-low : (t : Table) (c : Call) → refusal t c < byteEnd
 unfolding refusal reasons every
 refusal-low t c = first-low (reasons t c) refl
 

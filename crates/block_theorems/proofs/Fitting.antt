@@ -26,6 +26,7 @@ use Rattle.rules.proofs.Rules.{Parts}
 use Rattle.rules.proofs.ValidTasks.{row-given, elected-below}
 use Rattle.rules.proofs.ValidRegions.{held-fits, entries-fit}
 use Rattle.rules.proofs.Entries.{entries-most}
+use Rattle.packing.specs.Bytes.{halfWidth, wordWidth}
 use Rattle.packing.proofs.RoundTrips.{fits, timerFits}
 use Rattle.block_theorems.specs.Ranges.{elementsInRange}
 
@@ -59,9 +60,9 @@ pub record Fitting (t : Table) : Type 0 where
   pub entries : every (fits 1) (t .entries) ≡ true
   pub bound : every (fits 1) (t .bound) ≡ true
   pub lengths : every (fits 1) (t .length) ≡ true
-  pub element : every (fits 4) (t .element) ≡ true
+  pub element : every (fits wordWidth) (t .element) ≡ true
   pub criterion : every (fits 1) (t .criterion) ≡ true
-  pub ticks : fits 4 (t .ticks) ≡ true
+  pub ticks : fits wordWidth (t .ticks) ≡ true
   pub timers : every timerFits (t .timers) ≡ true
 
 -- ---- from validity
@@ -110,8 +111,8 @@ criterion-fits c h = let l = ltb-true c criterionEnd h in smaller 1 c criterionE
 record RowFits (priority state arrived list operator : ℕ) : Type 0 where
   priority-fits : fits 1 priority ≡ true
   state-fits : fits 1 state ≡ true
-  arrived-fits : fits 2 arrived ≡ true
-  list-fits : fits 2 list ≡ true
+  arrived-fits : fits halfWidth arrived ≡ true
+  list-fits : fits halfWidth list ≡ true
   operator-fits : fits 1 operator ≡ true
 
 row-fits : (tasks i priority state arrived list operator : ℕ) → rowFits tasks i priority state arrived list operator ≡ true
@@ -134,8 +135,8 @@ row-fits tasks i p s a l o h = go (ltb i tasks) refl
         record {
           priority-fits = zero-fits 1 p p′;
           state-fits = zero-fits 1 s s′;
-          arrived-fits = zero-fits 2 a a′;
-          list-fits = zero-fits 2 l l′;
+          arrived-fits = zero-fits halfWidth a a′;
+          list-fits = zero-fits halfWidth l l′;
           operator-fits = zero-fits 1 o o′;
         }
 
@@ -211,7 +212,7 @@ module _ (t : Table) (p : Parts t) where
           shown _ (armed-fits, (owner-fits, (event-fits, (d, tt))))
       go false e =
           let (a, (o, (v, (d, u)))) = given _ (simp e at h) in
-          shown _ (zero-fits 1 (r .armed) a, (zero-fits 1 (r .owner) o, (zero-fits 1 (r .event) v, (zero-fits 4 (r .date) d, tt))))
+          shown _ (zero-fits 1 (r .armed) a, (zero-fits 1 (r .owner) o, (zero-fits 1 (r .event) v, (zero-fits wordWidth (r .date) d, tt))))
 
   pub fitting : elementsInRange t ≡ true → Fitting t
   unfolding criteriaInRange timersRight

@@ -36,7 +36,7 @@ use Rattle.block_theorems.proofs.Elements.{isWord, elements-kept, effec
 use Rattle.block_theorems.proofs.Answers.{answer-read-back, damaged-fits, call-read}
 
 module _ (block : List ℕ) (c : Call) (small : areBytes block ≡ true) (is : isTable block ≡ true) where
-  pub call-stored : callBlock block c ≡ stored (step (unpacked block) c)
+  call-stored : callBlock block c ≡ stored (step (unpacked block) c)
   unfolding callBlock
   call-stored = rw is
 
@@ -104,7 +104,7 @@ module _ (block : List ℕ) (tasks regions queues : ℕ) (priorities bounds : Li
   MadeBy = Made block tasks regions queues priorities bounds
 
   -- by size and configuration
-  pub fresh-stored : freshBlock block tasks regions queues priorities bounds
+  fresh-stored : freshBlock block tasks regions queues priorities bounds
       ≡ cond (eqb (length block) blockSize) (cond inRange (stored (done table 0 0 0)) (stored (refused zeroTable 20))) (untouched block)
   unfolding freshBlock fresh
   fresh-stored = go inRange refl

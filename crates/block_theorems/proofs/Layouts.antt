@@ -13,7 +13,7 @@ use Rattle.rules.specs.Numbers.{taskRoom, regionRoom, queueRoom, storeSize, tim
 use Rattle.rules.specs.Words.{every}
 use Rattle.rules.proofs.Lists.{every-both, every-cons, every-nil}
 use Rattle.rules.proofs.Counts.{below-all}
-use Rattle.packing.specs.Bytes.{bytes, spread}
+use Rattle.packing.specs.Bytes.{halfWidth, wordWidth, bytes, spread}
 use Rattle.packing.specs.Timers.{timerWidth, unusedPlace, timersIn, timersBytes}
 use Rattle.packing.proofs.RoundTrips.{fits, bytes-length, bytes-small, spread-length, spread-small, numbers-spread, timers-length, timers-small, timers-read, timers-unused}
 use Rattle.layout.specs.Layout.{priorityPlace, statePlace, arrivedPlace, listPlace, operatorPlace, holderPlace, entriesPlace, boundPlace, lengthPlace, elementPlace, criterionPlace, ticksPlace, timersPlace, blockSize, part, unpacked, packed, unusedZero}
@@ -24,23 +24,23 @@ use Rattle.block_theorems.proofs.Fitting.{Sized, Fitting}
 
 -- ---- the parts of a block, one behind the other
 
-abbrev joined : List (List ℕ) → List ℕ
-joined [] = []
-joined (p ∷ ps) = p ++ joined ps
+abbrev appended : List (List ℕ) → List ℕ
+appended [] = []
+appended (p ∷ ps) = p ++ appended ps
 
 abbrev total : List ℕ → ℕ
 total [] = 0
 total (n ∷ ns) = n + total ns
 
-length-joined : (ps : List (List ℕ)) → length (joined ps) ≡ total (map length ps)
-length-joined [] = refl
-length-joined (p ∷ ps) = length-append p (joined ps) ∙ ap (λ n. length p + n) (length-joined ps)
+length-appended : (ps : List (List ℕ)) → length (appended ps) ≡ total (map length ps)
+length-appended [] = refl
+length-appended (p ∷ ps) = length-append p (appended ps) ∙ ap (λ n. length p + n) (length-appended ps)
 
 -- what stands behind the first k
-drop-joined : (k : ℕ) (ps : List (List ℕ)) → drop (total (take k (map length ps))) (joined ps) ≡ joined (drop k ps)
-drop-joined zero ps = refl
-drop-joined (suc k) [] = refl
-drop-joined (suc k) (p ∷ ps) = drop-append-add p (joined ps) _ ∙ drop-joined k ps
+drop-appended : (k : ℕ) (ps : List (List ℕ)) → drop (total (take k (map length ps))) (appended ps) ≡ appended (drop k ps)
+drop-appended zero ps = refl
+drop-appended (suc k) [] = refl
+drop-appended (suc k) (p ∷ ps) = drop-append-add p (appended ps) _ ∙ drop-appended k ps
 
 module _ (t : Table) where
   abbrev parts : List (List ℕ)
@@ -51,22 +51,22 @@ module _ (t : Table) where
       ∷ bytes 1 (t .elected)
       ∷ spread 1 (t .priority)
       ∷ spread 1 (t .state)
-      ∷ spread 2 (t .arrived)
-      ∷ spread 2 (t .list)
+      ∷ spread halfWidth (t .arrived)
+      ∷ spread halfWidth (t .list)
       ∷ spread 1 (t .operator)
       ∷ spread 1 (t .holder)
       ∷ spread 1 (t .entries)
       ∷ spread 1 (t .bound)
       ∷ spread 1 (t .length)
-      ∷ spread 4 (t .element)
+      ∷ spread wordWidth (t .element)
       ∷ spread 1 (t .criterion)
-      ∷ bytes 4 (t .ticks)
+      ∷ bytes wordWidth (t .ticks)
       ∷ timersBytes (t .timers)
       ∷ []
 
-  packed-joined : packed t ≡ joined parts
+  packed-appended : packed t ≡ appended parts
   unfolding packed
-  packed-joined = simp (append-assoc, append-nil)
+  packed-appended = simp (append-assoc, append-nil)
 
   pub packed-small : areBytes (packed t) ≡ true
   unfolding packed
@@ -81,14 +81,14 @@ sizes =
     ∷ 1
     ∷ taskRoom
     ∷ taskRoom
-    ∷ 2 * taskRoom
-    ∷ 2 * taskRoom
+    ∷ halfWidth * taskRoom
+    ∷ halfWidth * taskRoom
     ∷ taskRoom
     ∷ regionRoom
     ∷ regionRoom
     ∷ queueRoom
     ∷ queueRoom
-    ∷ 4 * storeSize
+    ∷ wordWidth * storeSize
     ∷ storeSize
     ∷ 4
     ∷ timerWidth * timerRoom
@@ -116,10 +116,10 @@ module _ (t : Table) (s : Sized t) where
       )
 
   pub packed-size : length (packed t) ≡ blockSize
-  packed-size = ap length (packed-joined t) ∙ length-joined (parts t) ∙ ap total parts-sizes
+  packed-size = ap length (packed-appended t) ∙ length-appended (parts t) ∙ ap total parts-sizes
 
-  from : (k : ℕ) → drop (total (take k sizes)) (packed t) ≡ joined (drop k (parts t))
-  from k = rw (packed-joined t, ← parts-sizes) (drop-joined k (parts t))
+  from : (k : ℕ) → drop (total (take k sizes)) (packed t) ≡ appended (drop k (parts t))
+  from k = rw (packed-appended t, ← parts-sizes) (drop-appended k (parts t))
 
 -- ---- packed, then unpacked
 
@@ -176,12 +176,12 @@ same-table u t a b c d e f g h i j q k l m n o p =
     }
 
 module _ (t : Table) (s : Sized t) (f : Fitting t) where
-  ticks-read : getD (part ticksPlace 4 1 (packed t)) 0 0 ≡ t .ticks
+  ticks-read : getD (part ticksPlace wordWidth 1 (packed t)) 0 0 ≡ t .ticks
   unfolding bytes spread
-  ticks-read = ap (λ ns. getD ns 0 0) (column-read 4 1 ticksPlace (packed t) (t .ticks ∷ []) _ (from t s 15) refl ticks-fit)
+  ticks-read = ap (λ ns. getD ns 0 0) (column-read wordWidth 1 ticksPlace (packed t) (t .ticks ∷ []) _ (from t s 15) refl ticks-fit)
     where
-      ticks-fit : every (fits 4) (t .ticks ∷ []) ≡ true
-      ticks-fit = every-cons (fits 4) (t .ticks) [] (f .ticks) (every-nil (fits 4))
+      ticks-fit : every (fits wordWidth) (t .ticks ∷ []) ≡ true
+      ticks-fit = every-cons (fits wordWidth) (t .ticks) [] (f .ticks) (every-nil (fits wordWidth))
 
   timers-back : timersIn timerRoom (drop timersPlace (packed t)) ≡ t .timers
   timers-back = rw (from t s 16, ← s .timers) (timers-read (t .timers) [] (f .timers))
@@ -196,14 +196,14 @@ module _ (t : Table) (s : Sized t) (f : Fitting t) where
       (byte-read (packed t) _ 3 _ (from t s 3) (f .elected))
       (column-read 1 taskRoom priorityPlace (packed t) _ _ (from t s 4) (s .priority) (f .priority))
       (column-read 1 taskRoom statePlace (packed t) _ _ (from t s 5) (s .state) (f .state))
-      (column-read 2 taskRoom arrivedPlace (packed t) _ _ (from t s 6) (s .arrived) (f .arrived))
-      (column-read 2 taskRoom listPlace (packed t) _ _ (from t s 7) (s .list) (f .list))
+      (column-read halfWidth taskRoom arrivedPlace (packed t) _ _ (from t s 6) (s .arrived) (f .arrived))
+      (column-read halfWidth taskRoom listPlace (packed t) _ _ (from t s 7) (s .list) (f .list))
       (column-read 1 taskRoom operatorPlace (packed t) _ _ (from t s 8) (s .operator) (f .operator))
       (column-read 1 regionRoom holderPlace (packed t) _ _ (from t s 9) (s .holder) (f .holder))
       (column-read 1 regionRoom entriesPlace (packed t) _ _ (from t s 10) (s .entries) (f .entries))
       (column-read 1 queueRoom boundPlace (packed t) _ _ (from t s 11) (s .bound) (f .bound))
       (column-read 1 queueRoom lengthPlace (packed t) _ _ (from t s 12) (s .lengths) (f .lengths))
-      (column-read 4 storeSize elementPlace (packed t) _ _ (from t s 13) (s .element) (f .element))
+      (column-read wordWidth storeSize elementPlace (packed t) _ _ (from t s 13) (s .element) (f .element))
       (column-read 1 storeSize criterionPlace (packed t) _ _ (from t s 14) (s .criterion) (f .criterion))
       ticks-read
       timers-back

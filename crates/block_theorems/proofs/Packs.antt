@@ -11,6 +11,7 @@ use Rattle.rules.specs.Validity.{countsInRange}
 use Rattle.rules.proofs.Bools.{given, shown}
 use Rattle.rules.proofs.Lists.{every-drop}
 use Rattle.rules.proofs.Validity.{parts-of}
+use Rattle.packing.specs.Bytes.{wordWidth}
 use Rattle.packing.proofs.RoundTrips.{isByte, numbers-fit}
 use Rattle.layout.specs.Layout.{elementPlace, blockSize, unpacked, isTable}
 use Rattle.block_theorems.specs.Packed.{PackThenUnpack, UnpackThenPack, ZerosRefused}
@@ -38,7 +39,7 @@ unpack-then-pack block small h =
     let (size, (zeros, (right, u))) = given _ h in
     record {
       right = right;
-      elements = numbers-fit 4 storeSize (drop elementPlace block) (every-drop isByte elementPlace block small);
+      elements = numbers-fit wordWidth storeSize (drop elementPlace block) (every-drop isByte elementPlace block small);
       back = bytes-back block small (eqb-true _ _ size) zeros;
     }
 

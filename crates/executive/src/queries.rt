@@ -18,18 +18,18 @@ ghost use lib.ListN.{length, getD};
 pub fn empty(t: Table, queue: u32) -> Answer
     ensures { λ r. ⌜ r ≡ emptyQuery t queue ⌝ }
 {
-    let ok = is_valid(t);
-    let status = object_status(ok, t.queues, queue);
-    let held = byte_at(&t.length, queue as usize);
-    reply_of(status, one_if(held == 0), t.elected)
+    let valid = is_valid(t);
+    let status = object_status(valid, t.queues, queue);
+    let n = byte_at(&t.length, queue as usize);
+    reply_of(status, one_if(n == 0), t.elected)
 }
 
 // FULL: 1 if the queue is at its bound.
 pub fn full(t: Table, queue: u32) -> Answer
     ensures { λ r. ⌜ r ≡ fullQuery t queue ⌝ }
 {
-    let ok = is_valid(t);
-    let status = object_status(ok, t.queues, queue);
+    let valid = is_valid(t);
+    let status = object_status(valid, t.queues, queue);
     let most = byte_at(&t.bound, queue as usize);
     let n = byte_at(&t.length, queue as usize);
     reply_of(status, one_if(most <= n), t.elected)
@@ -41,15 +41,15 @@ fn events_at(arrived: &[u16; TASKS], i: u8) -> u16
     ensures { λ r. ⌜ r ≡ getD (now (arrived .entry)) i 0 ⌝ }
 {
     let at = i as usize;
-    if at < 32 { arrived[at] } else { 0 }
+    if at < TASKS { arrived[at] } else { 0 }
 }
 
 // ARRIVED: 1 if the condition on the caller's events is met.
 pub fn arrived(t: Table, caller: u8, list: u32, operator: u32) -> Answer
     ensures { λ r. ⌜ r ≡ arrivedQuery t caller list operator ⌝ }
 {
-    let ok = is_valid(t);
-    let status = arrived_status(ok, t.elected, caller, list, operator);
+    let valid = is_valid(t);
+    let status = arrived_status(valid, t.elected, caller, list, operator);
     let events = events_at(&t.arrived, caller);
     let met = met_by((operator % 256) as u8, (list % 65536) as u16, events);
     reply_of(status, one_if(met), t.elected)
@@ -59,8 +59,8 @@ pub fn arrived(t: Table, caller: u8, list: u32, operator: u32) -> Answer
 pub fn priority(t: Table, task: u32) -> Answer
     ensures { λ r. ⌜ r ≡ priorityQuery t task ⌝ }
 {
-    let ok = is_valid(t);
-    let status = object_status(ok, t.tasks, task);
+    let valid = is_valid(t);
+    let status = object_status(valid, t.tasks, task);
     let p = byte_at(&t.priority, task as usize);
     reply_of(status, p as u32, t.elected)
 }
@@ -69,8 +69,8 @@ pub fn priority(t: Table, task: u32) -> Answer
 pub fn state(t: Table, task: u32) -> Answer
     ensures { λ r. ⌜ r ≡ stateQuery t task ⌝ }
 {
-    let ok = is_valid(t);
-    let status = object_status(ok, t.tasks, task);
+    let valid = is_valid(t);
+    let status = object_status(valid, t.tasks, task);
     let s = byte_at(&t.state, task as usize);
     reply_of(status, s as u32, t.elected)
 }

@@ -11,7 +11,7 @@ use borrow.Author.Tests.{eqb-true, eqb-false, eq-eqb, ne-eqb, ltb-true, ltb-fals
 use Rattle.rules.specs.declared.Region.{Region}
 use Rattle.rules.specs.declared.Table.{Table}
 use Rattle.rules.specs.declared.Call.{Call}
-use Rattle.rules.specs.Numbers.{regionRoom, mostEntries, outside, ENTER, EXIT}
+use Rattle.rules.specs.Numbers.{regionRoom, mostEntries, outside, ENTER, EXIT, TICK}
 use Rattle.rules.specs.Words.{isZero, every, byOperation}
 use Rattle.rules.specs.Regions.{held, heldBy, entered, exited}
 use Rattle.rules.specs.Queues.{noPair}
@@ -132,13 +132,13 @@ module _ (t : Table) (v : valid t ≡ true) (task r n : ℕ) (is : regionOf t r 
         let apart : eqb (c .a) r ≡ false = simp mine at x in
         region-other (c .a) (f (regionOf t (c .a))) t r (λ e. eqb-false _ _ apart (sym e))
 
-    enter-leaves : Left 6 (byOperation nothing 6 operations t c)
+    enter-leaves : Left ENTER (byOperation nothing ENTER operations t c)
     enter-leaves o x y = elsewhere (entered (c .caller)) (o .barred) (o .not-elected) x
 
-    exit-leaves : Left 7 (byOperation nothing 7 operations t c)
+    exit-leaves : Left EXIT (byOperation nothing EXIT operations t c)
     exit-leaves o x y = elsewhere (exited (c .caller)) (o .barred) (o .not-elected) y
 
-    tick-leaves : Left 12 (byOperation nothing 12 operations t c)
+    tick-leaves : Left TICK (byOperation nothing TICK operations t c)
     unfolding ticked
     tick-leaves o x y = ringing-same (λ u. regionOf u r) (λ i g u. refl) (later (t .ticks) 1) (t .timers) t
 
@@ -168,10 +168,10 @@ mark-parts operation task r c h =
 
 module _ (task r most deepest : ℕ) where
   -- a list that is balanced by itself, before one that begins at depth d
-  joined : (xs ys : List Call) (k d : ℕ) → most + d ≤ deepest → balanced task r most k xs ≡ true → balanced task r deepest d ys ≡ true
+  append-balanced : (xs ys : List Call) (k d : ℕ) → most + d ≤ deepest → balanced task r most k xs ≡ true → balanced task r deepest d ys ≡ true
       → balanced task r deepest (k + d) (xs ++ ys) ≡ true
-  joined [] ys k d l b e = let z : k + d ≡ d = omega (arith, eqb-true k 0 b) in rw z e
-  joined (c ∷ xs) ys k d l b e = go (enters task r c) (exits task r c) refl refl (λ j. joined xs ys j d l)
+  append-balanced [] ys k d l b e = let z : k + d ≡ d = omega (arith, eqb-true k 0 b) in rw z e
+  append-balanced (c ∷ xs) ys k d l b e = go (enters task r c) (exits task r c) refl refl (λ j. append-balanced xs ys j d l)
     where
       Rest : Type 0
       Rest = (j : ℕ) → balanced task r most j xs ≡ true → balanced task r deepest d ys ≡ true → balanced task r deepest (j + d) (xs ++ ys) ≡ true
@@ -193,12 +193,12 @@ pub nested-balanced : NestedBalanced
 nested-balanced task r most =
     record {
       empty = refl;
-      behind = λ xs ys b e. joined task r most most xs ys 0 0 (omega arith) b e;
+      behind = λ xs ys b e. append-balanced task r most most xs ys 0 0 (omega arith) b e;
       around =
           λ c d xs x y b.
           let (op, by, at) = mark-parts EXIT task r d y in
           let ends : balanced task r (suc most) 1 (d ∷ []) ≡ true = simp (op, by, at, eq-eqb task task refl, eq-eqb r r refl) in
-          rw x (both (lt-ltb 0 (suc most) (omega arith)) (joined task r most (suc most) xs (d ∷ []) 0 1 (omega arith) b ends));
+          rw x (both (lt-ltb 0 (suc most) (omega arith)) (append-balanced task r most (suc most) xs (d ∷ []) 0 1 (omega arith) b ends));
     }
 
 -- ---- a routine

@@ -11,7 +11,7 @@ use borrow.Author.Tests.{eqb-true, eqb-false, eq-eqb, ne-eqb, ltb-false, not-fal
 use Rattle.rules.specs.declared.Timer.{Timer}
 use Rattle.rules.specs.declared.Table.{Table}
 use Rattle.rules.specs.declared.Call.{Call}
-use Rattle.rules.specs.Numbers.{taskRoom, eventEnd, timerRoom, tickEnd, longestDelay, ARM, TICK}
+use Rattle.rules.specs.Numbers.{taskRoom, eventEnd, timerRoom, tickEnd, longestDelay, ARM, TICK, STOP, END, DISARM}
 use Rattle.rules.specs.Words.{isZero, altered, byOperation}
 use Rattle.rules.specs.Events.{has}
 use Rattle.rules.specs.Tasks.{signalled}
@@ -169,24 +169,24 @@ module _ (t : Table) (c : Call) (i : ℕ) (armed : isArmed (timerOf t i) ≡ tru
       → (timerOf t i ≡ timerOf t i) × (t .ticks ≡ t .ticks)
   untouched o d k = (refl, refl)
 
-  stop-stays : Stays 1 (byOperation nothing 1 operations t c)
+  stop-stays : Stays STOP (byOperation nothing STOP operations t c)
   unfolding disturbs
   stop-stays o d k = (stopped-other (c .a) d, refl)
 
-  end-stays : Stays 2 (byOperation nothing 2 operations t c)
+  end-stays : Stays END (byOperation nothing END operations t c)
   unfolding disturbs
   end-stays o d k = (stopped-other (c .caller) (or-left _ false d), refl)
 
-  arm-stays : Stays 10 (byOperation nothing 10 operations t c)
+  arm-stays : Stays ARM (byOperation nothing ARM operations t c)
   unfolding disturbs wrongState
   arm-stays o d k = (altered-same-timer (asArmed (c .caller) (c .b) (later (t .ticks) (c .c))) (or-left _ false d) (o .right-state), refl)
 
-  disarm-stays : Stays 11 (byOperation nothing 11 operations t c)
+  disarm-stays : Stays DISARM (byOperation nothing DISARM operations t c)
   unfolding disturbs wrongState
   disarm-stays o d k = (altered-same-timer (disarmed (c .caller)) (or-left _ false d) (o .right-state), refl)
 
   -- a TICK that is accepted is one from outside
-  tick-stays : Stays 12 (byOperation nothing 12 operations t c)
+  tick-stays : Stays TICK (byOperation nothing TICK operations t c)
   tick-stays o d k = absurd (true≢false (sym (not-false _ (o .no-tick)) ∙ k))
 
   effect-stays : Accepted t c → disturbs i (timerOf t i .owner) c ≡ false → isTick c ≡ false

@@ -29,9 +29,25 @@ use Rattle.theorems.proofs.Damaged.{stays-agree}
 use Rattle.theorems.proofs.Order.{demand3}
 use Rattle.lasting_theorems.specs.Examples.{begun, by, Premise, SameEnd, counting, ticksFirst, ticksLater, SameEndTicking, waits, wakesFirst, wakesLater, SameEndWaking, electsFirst, electsLater, SameEndElecting, OnlyRefusingPasses, FixedPasses, UntouchedPasses, NotInTurn, NotFree, NotPastArm, NotPastDisarm, NotOnlyRefusing, NotFixed, NotUntouched}
 
--- to unfold this is to unfold all that the rules compute with
+-- to unfold one of these is to unfold all that the rules compute with: objects, the check, and a call
+unfoldable pub objects : Unit {0}
+unfolding all every below padded met arrive woken signalled waited held pairs front behindFront laid largest beforeFirst place without queueOf
+objects = tt
+
+unfoldable pub elections : Unit {0}
+unfolding smallest lowest isBest bestReady election
+elections = tt
+
+unfoldable pub ranges : Unit {0}
+unfolding shaped countsInRange prioritiesInRange boundsInRange listsInRange operatorsInRange holdersInRange criteriaInRange
+ranges = tt
+
+unfoldable pub checks : Unit {0}
+unfolding ranges zeroPast zeroPastCounts zeroPastLengths restRight statesRight entriesRight oneHolder holderReady holderElected lengthsRight electedRight timerRight timersRight valid
+checks = tt
+
 unfoldable pub rules : Unit {0}
-unfolding all every below padded met arrive woken signalled waited held pairs front behindFront laid largest beforeFirst place without smallest lowest isBest bestReady election queueOf shaped countsInRange prioritiesInRange boundsInRange listsInRange operatorsInRange holdersInRange criteriaInRange zeroPast zeroPastCounts zeroPastLengths restRight statesRight entriesRight oneHolder holderReady holderElected lengthsRight electedRight timerRight timersRight valid later ahead ringing ticked freshTable missing wrongState leaves reasons refusal effect step zeroTable
+unfolding objects elections checks later ahead ringing ticked freshTable zeroTable missing wrongState leaves reasons refusal effect step
 rules = tt
 
 firstStatus : List Reply → ℕ
@@ -208,9 +224,9 @@ started : getD (step begun startOne .table .state) 1 0 ≡ 1
 unfolding rules startOne
 started = refl
 
-stood : getD (begun .state) 1 0 ≡ 0
+not-yet : getD (begun .state) 1 0 ≡ 0
 unfolding rules
-stood = refl
+not-yet = refl
 
 pub not-only-refusing : NotOnlyRefusing
 not-only-refusing status n meets = n begun startOne (ap (λ d. d .answer .status) (meets begun startOne) ∙ accepted)
@@ -226,5 +242,5 @@ not-fixed f a fixed meets =
 pub not-untouched : NotUntouched
 not-untouched f same meets =
     let back : step begun startOne .table ≡ begun = ap (λ d. d .table) (sym (meets begun startOne)) ∙ same begun startOne in
-    let no : _≡_ {A = ℕ} 1 0 = sym started ∙ ap (λ t. getD (t .state) 1 0) back ∙ stood in
+    let no : _≡_ {A = ℕ} 1 0 = sym started ∙ ap (λ t. getD (t .state) 1 0) back ∙ not-yet in
     omega arith

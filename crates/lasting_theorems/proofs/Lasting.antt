@@ -9,7 +9,7 @@ use Rattle.rules.specs.declared.Task.{Task}
 use Rattle.rules.specs.declared.Timer.{Timer}
 use Rattle.rules.specs.declared.Table.{Table}
 use Rattle.rules.specs.declared.Call.{Call}
-use Rattle.rules.specs.Numbers.{eventEnd, SIGNAL}
+use Rattle.rules.specs.Numbers.{eventEnd, SIGNAL, START, STOP, END, WAIT, CLEAR, TICK}
 use Rattle.rules.specs.Words.{isZero, byOperation}
 use Rattle.rules.specs.Events.{has, met, arrive}
 use Rattle.rules.specs.Tasks.{asStarted, asStopped, signalled, waited, asCleared}
@@ -91,7 +91,7 @@ module _ (t : Table) (p : Parts t) (c : Call) where
     untouched : {n : ℕ} → Accepted t (numbered n c) → forgets e i (numbered n c) ≡ false → arrivedAt t e i ≡ true
     untouched o k = h
 
-    start-stays : Stays 0 (byOperation nothing 0 operations t c)
+    start-stays : Stays START (byOperation nothing START operations t c)
     unfolding missing wrongState
     start-stays o k = changed-has (c .a) asStarted l (λ same. absurd (true≢false (sym h ∙ stood same)))
       where
@@ -106,30 +106,30 @@ module _ (t : Table) (p : Parts t) (c : Call) where
             let none : taskOf t (c .a) .arrived ≡ 0 = eqb-true _ 0 (rw zero-state at row) in
             rw (← same, none) (nothing-arrived e)
 
-    stop-stays : Stays 1 (byOperation nothing 1 operations t c)
+    stop-stays : Stays STOP (byOperation nothing STOP operations t c)
     unfolding missing forgets
     stop-stays o k =
         changed-has (c .a) asStopped (there (t .tasks) (c .a) (o .nothing-missing))
         (λ same. absurd (true≢false (sym (eq-eqb (c .a) i same) ∙ k)))
 
-    end-stays : Stays 2 (byOperation nothing 2 operations t c)
+    end-stays : Stays END (byOperation nothing END operations t c)
     unfolding forgets
     end-stays o k =
         changed-has (c .caller) asStopped (caller-below t p (c .caller) (caller-of t (c .caller) (o .barred) (o .not-elected)))
         (λ same. absurd (true≢false (sym (eq-eqb (c .caller) i same) ∙ or-left _ false k)))
 
-    signal-stays : Stays 3 (byOperation nothing 3 operations t c)
+    signal-stays : Stays SIGNAL (byOperation nothing SIGNAL operations t c)
     unfolding missing
     signal-stays o k =
         changed-has (c .b) (signalled (c .a)) (there (t .tasks) (c .b) (or-right (absent eventEnd (c .a)) _ (o .nothing-missing)))
         (λ same. signalled-has e (c .a) (taskOf t i) h)
 
-    wait-stays : Stays 4 (byOperation nothing 4 operations t c)
+    wait-stays : Stays WAIT (byOperation nothing WAIT operations t c)
     wait-stays o k =
         changed-has (c .caller) (waited (c .a) (c .b)) (caller-below t p (c .caller) (caller-of t (c .caller) (o .barred) (o .not-elected)))
         (λ same. rw (waited-arrived (c .a) (c .b) (taskOf t i)) h)
 
-    clear-stays : Stays 5 (byOperation nothing 5 operations t c)
+    clear-stays : Stays CLEAR (byOperation nothing CLEAR operations t c)
     unfolding forgets
     clear-stays o k =
         changed-has (c .caller) (asCleared (c .a)) (caller-below t p (c .caller) (caller-of t (c .caller) (o .barred) (o .not-elected)))
@@ -137,7 +137,7 @@ module _ (t : Table) (p : Parts t) (c : Call) where
         let kept : has e (c .a) ≡ false = simp (eq-eqb (c .caller) i same) at (or-left (eqb (c .caller) i && has e (c .a)) false k) in
         has-cleared e (c .a) (taskOf t i .arrived) ∙ both h (not-intro _ kept))
 
-    tick-stays : Stays 12 (byOperation nothing 12 operations t c)
+    tick-stays : Stays TICK (byOperation nothing TICK operations t c)
     unfolding ticked
     tick-stays o k = ringing-has e i (later (t .ticks) 1) (t .timers) t (p .shape) h
 
@@ -152,10 +152,10 @@ module _ (t : Table) (p : Parts t) (c : Call) where
   effect-arrives o e = go (c .operation) e o
     where
       go : (n : ℕ) → n ≡ SIGNAL → Accepted t (numbered n c) → arrivedAt (byOperation nothing n operations t c .table) (c .a) (c .b) ≡ true
-      go n s a = rw s (heard (rw s at a))
+      go n s a = rw s (arrives (rw s at a))
         where
-          heard : Accepted t (numbered SIGNAL c) → arrivedAt (changed (c .b) (signalled (c .a)) t) (c .a) (c .b) ≡ true
-          heard a =
+          arrives : Accepted t (numbered SIGNAL c) → arrivedAt (changed (c .b) (signalled (c .a)) t) (c .a) (c .b) ≡ true
+          arrives a =
               let l = there (t .tasks) (c .b) (or-right (absent eventEnd (c .a)) _ (a .nothing-missing)) in
               ap (λ r. has (c .a) (r .arrived)) (changed-same t (p .shape) (c .b) (below-room t p (c .b) l) (signalled (c .a)))
               ∙ rw (signalled-arrived (c .a) (taskOf t (c .b))) (has-arrived (c .a) (taskOf t (c .b) .arrived))

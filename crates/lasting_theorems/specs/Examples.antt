@@ -33,11 +33,11 @@ aTick = tick (record { unread-a = 0; unread-b = 0; unread-c = 0 })
 
 -- ---- two signals and two calls, arranged in two ways: the same end
 
-abbrev pub before : List Happening
-before = outside (event 0 0) ∷ own (by 0 ENTER 0 0 0) ∷ outside (event 1 0) ∷ own (by 0 SEND 0 7 3) ∷ []
+abbrev pub oneWay : List Happening
+oneWay = outside (event 0 0) ∷ own (by 0 ENTER 0 0 0) ∷ outside (event 1 0) ∷ own (by 0 SEND 0 7 3) ∷ []
 
-abbrev pub behind : List Happening
-behind = own (by 0 ENTER 0 0 0) ∷ outside (event 1 0) ∷ own (by 0 SEND 0 7 3) ∷ outside (event 0 0) ∷ []
+abbrev pub otherWay : List Happening
+otherWay = own (by 0 ENTER 0 0 0) ∷ outside (event 1 0) ∷ own (by 0 SEND 0 7 3) ∷ outside (event 0 0) ∷ []
 
 -- what demand 3 asks for
 pub record Premise (t : Table) (xs ys : List Happening) : Type 0 where
@@ -49,7 +49,7 @@ pub record Premise (t : Table) (xs ys : List Happening) : Type 0 where
   pub then-in-turn : InTurn step t ys
 
 abbrev pub SameEnd : Type 0
-SameEnd = Premise begun before behind × (run step begun before ≡ run step begun behind)
+SameEnd = Premise begun oneWay otherWay × (run step begun oneWay ≡ run step begun otherWay)
 
 -- ---- two ticks, over the end of the counter, among a signal and two calls: the same end, and the delay is over
 

@@ -1,2 +1,1 @@
-// What lasts by the rules: statements in `specs/`, their proofs in `proofs/`. There is no code here.
-// Demand 3 at work and at its edge: statements in `specs/`, their proofs in `proofs/`. There is no code here.
+// What lasts by the rules, and demand 3 at work: statements in `specs/`, their proofs in `proofs/`. There is no code here.

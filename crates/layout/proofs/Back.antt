@@ -11,7 +11,7 @@ use Rattle.rules.specs.Numbers.{taskRoom, regionRoom, queueRoom, storeSize, tim
 use Rattle.rules.specs.Words.{every}
 use Rattle.rules.proofs.Lists.{every-drop, every-cons, every-nil}
 use Rattle.rules.proofs.Counts.{below-at}
-use Rattle.packing.specs.Bytes.{bytes, numbers, spread}
+use Rattle.packing.specs.Bytes.{halfWidth, wordWidth, bytes, numbers, spread}
 use Rattle.packing.specs.Timers.{timerWidth, unusedPlace}
 use Rattle.packing.proofs.RoundTrips.{isByte, spread-numbers, bytes-front, take-next, byte-at, timers-written}
 use Rattle.layout.specs.Layout.{priorityPlace, statePlace, arrivedPlace, listPlace, operatorPlace, holderPlace, entriesPlace, boundPlace, lengthPlace, elementPlace, criterionPlace, ticksPlace, timersPlace, blockSize, part, unpacked, packed, unusedZero}
@@ -29,9 +29,9 @@ module _ (block : List ℕ) (small : every isByte block ≡ true) (size : length
   column place width count l =
       spread-numbers width count (drop place block) (every-drop isByte place block small) (rw (length-drop, size) (omega arith))
 
-  ticks-written : bytes 4 (getD (part ticksPlace 4 1 block) 0 0) ≡ take 4 (drop ticksPlace block)
+  ticks-written : bytes wordWidth (getD (part ticksPlace wordWidth 1 block) 0 0) ≡ take wordWidth (drop ticksPlace block)
   unfolding numbers
-  ticks-written = bytes-front 4 (drop ticksPlace block) (every-drop isByte ticksPlace block small) (rw (length-drop, size) (omega arith))
+  ticks-written = bytes-front wordWidth (drop ticksPlace block) (every-drop isByte ticksPlace block small) (rw (length-drop, size) (omega arith))
 
   unused-at : unusedZero block ≡ true → (i : ℕ) → i < timerRoom → getD (drop timersPlace block) (timerWidth * i + unusedPlace) 0 ≡ 0
   unfolding unusedZero
@@ -43,16 +43,16 @@ module _ (block : List ℕ) (small : every isByte block ≡ true) (size : length
   unfolding packed unpacked
   bytes-back zeros =
       take-next timersPlace (timerWidth * timerRoom) block _ _
-      (take-next ticksPlace 4 block _ _
+      (take-next ticksPlace wordWidth block _ _
       (take-next criterionPlace storeSize block _ _
-      (take-next elementPlace (4 * storeSize) block _ _
+      (take-next elementPlace (wordWidth * storeSize) block _ _
       (take-next lengthPlace queueRoom block _ _
       (take-next boundPlace queueRoom block _ _
       (take-next entriesPlace regionRoom block _ _
       (take-next holderPlace regionRoom block _ _
       (take-next operatorPlace taskRoom block _ _
-      (take-next listPlace (2 * taskRoom) block _ _
-      (take-next arrivedPlace (2 * taskRoom) block _ _
+      (take-next listPlace (halfWidth * taskRoom) block _ _
+      (take-next arrivedPlace (halfWidth * taskRoom) block _ _
       (take-next statePlace taskRoom block _ _
       (take-next priorityPlace taskRoom block _ _
       (take-next 3 1 block _ _
@@ -60,14 +60,14 @@ module _ (block : List ℕ) (small : every isByte block ≡ true) (size : length
       (byte 3 (omega arith)))
       (column priorityPlace 1 taskRoom (omega arith)))
       (column statePlace 1 taskRoom (omega arith)))
-      (column arrivedPlace 2 taskRoom (omega arith)))
-      (column listPlace 2 taskRoom (omega arith)))
+      (column arrivedPlace halfWidth taskRoom (omega arith)))
+      (column listPlace halfWidth taskRoom (omega arith)))
       (column operatorPlace 1 taskRoom (omega arith)))
       (column holderPlace 1 regionRoom (omega arith)))
       (column entriesPlace 1 regionRoom (omega arith)))
       (column boundPlace 1 queueRoom (omega arith)))
       (column lengthPlace 1 queueRoom (omega arith)))
-      (column elementPlace 4 storeSize (omega arith)))
+      (column elementPlace wordWidth storeSize (omega arith)))
       (column criterionPlace 1 storeSize (omega arith)))
       ticks-written)
       (timers-written timerRoom (drop timersPlace block) (every-drop isByte timersPlace block small) (rw (length-drop, size) (omega arith)) (unused-at zeros))

@@ -5,6 +5,7 @@ use mathlib.Core.List.{List, map}
 use lib.ListN.{length, drop, length-map}
 use Rattle.rules.specs.declared.Table.{Table}
 use Rattle.rules.specs.Numbers.{taskRoom, regionRoom, queueRoom, storeSize, timerRoom}
+use Rattle.packing.specs.Bytes.{halfWidth, wordWidth}
 use Rattle.packing.specs.Timers.{timerWidth, timersIn}
 use Rattle.packing.proofs.RoundTrips.{numbers-length}
 use Rattle.layout.specs.Layout.{priorityPlace, statePlace, arrivedPlace, listPlace, operatorPlace, holderPlace, entriesPlace, boundPlace, lengthPlace, elementPlace, criterionPlace, timersPlace, unpacked}
@@ -40,14 +41,14 @@ unpacked-sized block =
     record {
       priority-long = numbers-length 1 taskRoom (drop priorityPlace block);
       state-long = numbers-length 1 taskRoom (drop statePlace block);
-      arrived-long = numbers-length 2 taskRoom (drop arrivedPlace block);
-      list-long = numbers-length 2 taskRoom (drop listPlace block);
+      arrived-long = numbers-length halfWidth taskRoom (drop arrivedPlace block);
+      list-long = numbers-length halfWidth taskRoom (drop listPlace block);
       operator-long = numbers-length 1 taskRoom (drop operatorPlace block);
       holder-long = numbers-length 1 regionRoom (drop holderPlace block);
       entries-long = numbers-length 1 regionRoom (drop entriesPlace block);
       bound-long = numbers-length 1 queueRoom (drop boundPlace block);
       length-long = numbers-length 1 queueRoom (drop lengthPlace block);
-      element-long = numbers-length 4 storeSize (drop elementPlace block);
+      element-long = numbers-length wordWidth storeSize (drop elementPlace block);
       criterion-long = numbers-length 1 storeSize (drop criterionPlace block);
       timers-long = timers-sized timerRoom (drop timersPlace block);
     }

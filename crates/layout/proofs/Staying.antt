@@ -12,7 +12,7 @@ use Rattle.rules.specs.Numbers.{storeSize}
 use Rattle.rules.specs.Words.{every}
 use Rattle.tables.specs.declared.front.Front.{Front}
 use Rattle.tables.specs.Fronts.{whole}
-use Rattle.packing.specs.Bytes.{spread, over, put}
+use Rattle.packing.specs.Bytes.{wordWidth, spread, over, put}
 use Rattle.packing.proofs.RoundTrips.{isByte, numbers-length}
 use Rattle.layout.specs.Layout.{elementPlace, criterionPlace, blockSize, part, unpacked, packed}
 use Rattle.layout.proofs.Back.{column}
@@ -46,9 +46,9 @@ front-back f block small size s =
     let long = written-length block size elementPlace (headOf f) (headPut f block) (omega arith) head in
     let same : drop elementPlace (headPut f block) ≡ drop elementPlace block = ap (drop elementPlace) (head .whole) ∙ drop-at (headOf f) (drop elementPlace block) elementPlace (head .long) in
     let behind : drop criterionPlace (headPut f block) ≡ drop criterionPlace block =
-    sym (drop-drop (4 * storeSize) elementPlace (headPut f block)) ∙ ap (drop (4 * storeSize)) same ∙ drop-drop (4 * storeSize) elementPlace block
+    sym (drop-drop (wordWidth * storeSize) elementPlace (headPut f block)) ∙ ap (drop (wordWidth * storeSize)) same ∙ drop-drop (wordWidth * storeSize) elementPlace block
     in
-    let elements = sym (put-own block (headPut f block) small size long elementPlace 4 storeSize refl same) in
+    let elements = sym (put-own block (headPut f block) small size long elementPlace wordWidth storeSize refl same) in
     let criteria = sym (put-own block (headPut f block) small size long criterionPlace 1 storeSize refl behind) in
     ap (tailPut (f .ticks) (f .timers)) (criteria ∙ ap (put 1 criterionPlace (unpacked block .criterion)) elements)
     ∙ whole-put f (unpacked block .element) (unpacked block .criterion) block s size

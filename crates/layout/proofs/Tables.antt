@@ -9,10 +9,10 @@ use Rattle.rules.specs.Words.{all}
 use Rattle.rules.specs.Validity.{valid}
 use Rattle.packing.specs.Answers.{answerNumber}
 use Rattle.layout.specs.Layout.{blockSize, unpacked, unusedZero, isTable}
-use Rattle.layout.specs.Calls.{notATable}
+use Rattle.layout.specs.Calls.{notATable, notATableNumber}
 
 -- the number that stands for 10
-pub ten-is : 65290 ≡ answerNumber notATable
+pub ten-is : notATableNumber ≡ answerNumber notATable
 unfolding answerNumber
 ten-is = refl
 

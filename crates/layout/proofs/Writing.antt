@@ -12,7 +12,7 @@ use Rattle.rules.specs.declared.Timer.{Timer}
 use Rattle.rules.specs.Numbers.{taskRoom, regionRoom, queueRoom, storeSize, timerRoom}
 use Rattle.tables.specs.declared.front.Front.{Front}
 use Rattle.tables.specs.Fronts.{whole}
-use Rattle.packing.specs.Bytes.{bytes, spread, over, put}
+use Rattle.packing.specs.Bytes.{halfWidth, wordWidth, bytes, spread, over, put}
 use Rattle.packing.specs.Timers.{timerWidth, timersBytes, timersPut}
 use Rattle.packing.proofs.RoundTrips.{spread-length, timers-length}
 use Rattle.layout.specs.Layout.{priorityPlace, statePlace, arrivedPlace, listPlace, operatorPlace, holderPlace, entriesPlace, boundPlace, lengthPlace, elementPlace, criterionPlace, ticksPlace, timersPlace, blockSize, packed}
@@ -43,7 +43,7 @@ module _ (old : List ℕ) (size : length old ≡ blockSize) where
       record { long = rw (length-append, w .long, l); whole = rw (l, before, behind) }
 
   -- a column in the bytes that come next
-  pub column-next : (place width count : ℕ) {front block : List ℕ} (ns after : List ℕ) → Written place front old block → length ns ≡ count
+  column-next : (place width count : ℕ) {front block : List ℕ} (ns after : List ℕ) → Written place front old block → length ns ≡ count
       → leb (place + width * count) blockSize ≡ true → after ≡ put width place ns block
       → Written (place + width * count) (front ++ spread width ns) old after
   unfolding put
@@ -53,16 +53,15 @@ module _ (old : List ℕ) (size : length old ≡ blockSize) where
       let there : after ≡ over place (spread width ns) block = e ∙ rw (l, long, h) in
       rw there (over-next place (width * count) front block (spread width ns) w (rw (spread-length, l)))
 
-  pub timers-next : {front block : List ℕ} (rs : List Timer) (after : List ℕ) → Written timersPlace front old block → length rs ≡ timerRoom
-      → after ≡ timersPut timersPlace rs block → (after ≡ front ++ timersBytes rs) × (length after ≡ length old)
+  timers-next : {front block : List ℕ} (rs : List Timer) (after : List ℕ) → Written timersPlace front old block → length rs ≡ timerRoom
+      → after ≡ timersPut timersPlace rs block → after ≡ front ++ timersBytes rs
   unfolding timersPut
   timers-next {front} {block} rs after w l e =
       let long = written-length timersPlace front block (omega arith) w in
       let there : after ≡ over timersPlace (timersBytes rs) block = e ∙ rw long in
       let all = over-next timersPlace (timerWidth * timerRoom) front block (timersBytes rs) w (rw (timers-length, l)) in
       let past : length old ≤ timersPlace + timerWidth * timerRoom = omega arith in
-      let whole : after ≡ front ++ timersBytes rs = there ∙ all .whole ∙ rw (drop-of-length-le old past) (append-nil (front ++ timersBytes rs)) in
-      (whole, ap length whole ∙ all .long ∙ sym size)
+      there ∙ all .whole ∙ rw (drop-of-length-le old past) (append-nil (front ++ timersBytes rs))
 
 -- the bytes before the store
 unfoldable pub headOf : Front → List ℕ
@@ -73,8 +72,8 @@ headOf f =
     ++ bytes 1 (f .elected)
     ++ spread 1 (f .priority)
     ++ spread 1 (f .state)
-    ++ spread 2 (f .arrived)
-    ++ spread 2 (f .list)
+    ++ spread halfWidth (f .arrived)
+    ++ spread halfWidth (f .list)
     ++ spread 1 (f .operator)
     ++ spread 1 (f .holder)
     ++ spread 1 (f .entries)
@@ -85,9 +84,9 @@ four-bytes : (a b c d : ℕ) → spread 1 (a ∷ b ∷ c ∷ d ∷ []) ≡ bytes
 unfolding spread bytes
 four-bytes a b c d = refl
 
-one-word : (n : ℕ) → spread 4 (n ∷ []) ≡ bytes 4 n
+one-word : (n : ℕ) → spread wordWidth (n ∷ []) ≡ bytes wordWidth n
 unfolding spread
-one-word n = append-nil (bytes 4 n)
+one-word n = append-nil (bytes wordWidth n)
 
 -- up to the store
 pub head-next : (f : Front) (es cs old : List ℕ) → Sized (whole f es cs) → (size : length old ≡ blockSize) → Written elementPlace (headOf f) old (headPut f old)
@@ -97,8 +96,8 @@ head-next f es cs old s size =
     let counts = rw four-bytes at (column-next old size 0 1 4 (f .tasks ∷ f .regions ∷ f .queues ∷ f .elected ∷ []) _ start refl refl refl) in
     let priority = column-next old size priorityPlace 1 taskRoom (f .priority) _ counts (s .priority-long) refl refl in
     let state = column-next old size statePlace 1 taskRoom (f .state) _ priority (s .state-long) refl refl in
-    let arrived = column-next old size arrivedPlace 2 taskRoom (f .arrived) _ state (s .arrived-long) refl refl in
-    let list = column-next old size listPlace 2 taskRoom (f .list) _ arrived (s .list-long) refl refl in
+    let arrived = column-next old size arrivedPlace halfWidth taskRoom (f .arrived) _ state (s .arrived-long) refl refl in
+    let list = column-next old size listPlace halfWidth taskRoom (f .list) _ arrived (s .list-long) refl refl in
     let operator = column-next old size operatorPlace 1 taskRoom (f .operator) _ list (s .operator-long) refl refl in
     let holder = column-next old size holderPlace 1 regionRoom (f .holder) _ operator (s .holder-long) refl refl in
     let entries = column-next old size entriesPlace 1 regionRoom (f .entries) _ holder (s .entries-long) refl refl in
@@ -109,7 +108,7 @@ pub whole-put : (f : Front) (es cs block : List ℕ) → Sized (whole f es cs) �
 unfolding wholePut packed headOf tailPut
 whole-put f es cs old s size =
     let head = head-next f es cs old s size in
-    let element = column-next old size elementPlace 4 storeSize es _ head (s .element-long) refl refl in
+    let element = column-next old size elementPlace wordWidth storeSize es _ head (s .element-long) refl refl in
     let criterion = column-next old size criterionPlace 1 storeSize cs _ element (s .criterion-long) refl refl in
-    let ticks = rw one-word at (column-next old size ticksPlace 4 1 (f .ticks ∷ []) _ criterion refl refl refl) in
-    timers-next old size (f .timers) _ ticks (s .timers-long) refl .0
+    let ticks = rw one-word at (column-next old size ticksPlace wordWidth 1 (f .ticks ∷ []) _ criterion refl refl refl) in
+    timers-next old size (f .timers) _ ticks (s .timers-long) refl

@@ -1,5 +1,5 @@
 -- "Provide: make fresh, one call, one query": what each does to the block, and the number that it answers.
-use Prim.Native.Nat.{ℕ}
+use Prim.Native.Nat.{ℕ, _+_, _*_}
 use mathlib.Core.Bool.{cond}
 use mathlib.Core.List.{List, [], _∷_}
 use lib.Dec.{eqb}
@@ -29,6 +29,10 @@ stored d = record { block = packed (d .table); answer = answerNumber (d .answer)
 -- "gets 10 and isn't touched"
 abbrev pub notATable : Answer
 notATable = record { status = 10; value = 0; key = 0; elected = nobody }
+
+-- its number: the status, and the elected task 256 times
+abbrev pub notATableNumber : ℕ
+notATableNumber = 10 + 256 * nobody
 
 abbrev pub untouched : List ℕ → Stored
 untouched block = record { block = block; answer = answerNumber notATable }

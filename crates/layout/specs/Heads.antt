@@ -2,13 +2,13 @@
 use Prim.Native.Nat.{ℕ}
 use mathlib.Core.List.{List, [], _∷_}
 use Rattle.tables.specs.declared.front.Front.{Front}
-use Rattle.packing.specs.Bytes.{put}
+use Rattle.packing.specs.Bytes.{halfWidth, put}
 use Rattle.layout.specs.Layout.{priorityPlace, statePlace, arrivedPlace, listPlace, operatorPlace, holderPlace, entriesPlace, boundPlace, lengthPlace}
 
 abbrev pub columnsPut : List ℕ → List ℕ → List ℕ → List ℕ → List ℕ → List ℕ → List ℕ
 columnsPut priority state arrived list operator block =
     put 1 operatorPlace operator
-    (put 2 listPlace list (put 2 arrivedPlace arrived (put 1 statePlace state (put 1 priorityPlace priority block))))
+    (put halfWidth listPlace list (put halfWidth arrivedPlace arrived (put 1 statePlace state (put 1 priorityPlace priority block))))
 
 abbrev pub headsPut : List ℕ → List ℕ → List ℕ → List ℕ → List ℕ → List ℕ
 headsPut holder entries bound lengths block =

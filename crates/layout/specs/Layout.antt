@@ -8,7 +8,7 @@ use Rattle.rules.specs.declared.Table.{Table}
 use Rattle.rules.specs.Numbers.{taskRoom, regionRoom, queueRoom, storeSize, timerRoom}
 use Rattle.rules.specs.Words.{isZero, all, below}
 use Rattle.rules.specs.Validity.{valid}
-use Rattle.packing.specs.Bytes.{bytes, numbers, spread}
+use Rattle.packing.specs.Bytes.{halfWidth, wordWidth, bytes, numbers, spread}
 use Rattle.packing.specs.Timers.{timerWidth, unusedPlace, timersIn, timersBytes}
 
 -- ---- the places: each part begins where the one before it ends
@@ -23,10 +23,10 @@ abbrev pub arrivedPlace : ℕ
 arrivedPlace = statePlace + taskRoom
 
 abbrev pub listPlace : ℕ
-listPlace = arrivedPlace + 2 * taskRoom
+listPlace = arrivedPlace + halfWidth * taskRoom
 
 abbrev pub operatorPlace : ℕ
-operatorPlace = listPlace + 2 * taskRoom
+operatorPlace = listPlace + halfWidth * taskRoom
 
 abbrev pub holderPlace : ℕ
 holderPlace = operatorPlace + taskRoom
@@ -44,13 +44,13 @@ abbrev pub elementPlace : ℕ
 elementPlace = lengthPlace + queueRoom
 
 abbrev pub criterionPlace : ℕ
-criterionPlace = elementPlace + 4 * storeSize
+criterionPlace = elementPlace + wordWidth * storeSize
 
 abbrev pub ticksPlace : ℕ
 ticksPlace = criterionPlace + storeSize
 
 abbrev pub timersPlace : ℕ
-timersPlace = ticksPlace + 4
+timersPlace = ticksPlace + wordWidth
 
 -- "one stated size": 2968 bytes
 abbrev pub blockSize : ℕ
@@ -71,16 +71,16 @@ unpacked block =
       elected = getD block 3 0;
       priority = part priorityPlace 1 taskRoom block;
       state = part statePlace 1 taskRoom block;
-      arrived = part arrivedPlace 2 taskRoom block;
-      list = part listPlace 2 taskRoom block;
+      arrived = part arrivedPlace halfWidth taskRoom block;
+      list = part listPlace halfWidth taskRoom block;
       operator = part operatorPlace 1 taskRoom block;
       holder = part holderPlace 1 regionRoom block;
       entries = part entriesPlace 1 regionRoom block;
       bound = part boundPlace 1 queueRoom block;
       length = part lengthPlace 1 queueRoom block;
-      element = part elementPlace 4 storeSize block;
+      element = part elementPlace wordWidth storeSize block;
       criterion = part criterionPlace 1 storeSize block;
-      ticks = getD (part ticksPlace 4 1 block) 0 0;
+      ticks = getD (part ticksPlace wordWidth 1 block) 0 0;
       timers = timersIn timerRoom (drop timersPlace block);
     }
 
@@ -93,16 +93,16 @@ packed t =
     ++ bytes 1 (t .elected)
     ++ spread 1 (t .priority)
     ++ spread 1 (t .state)
-    ++ spread 2 (t .arrived)
-    ++ spread 2 (t .list)
+    ++ spread halfWidth (t .arrived)
+    ++ spread halfWidth (t .list)
     ++ spread 1 (t .operator)
     ++ spread 1 (t .holder)
     ++ spread 1 (t .entries)
     ++ spread 1 (t .bound)
     ++ spread 1 (t .length)
-    ++ spread 4 (t .element)
+    ++ spread wordWidth (t .element)
     ++ spread 1 (t .criterion)
-    ++ bytes 4 (t .ticks)
+    ++ bytes wordWidth (t .ticks)
     ++ timersBytes (t .timers)
 
 -- "unused bytes 0": one in each timer

@@ -1,7 +1,4 @@
--- The table in a block of bytes: the layout, and the three calls on a block.
--- The front of a table in a block.
--- The parts before the store, as they are written.
--- The table as it is written.
+-- The table in a block of bytes: the layout, the three calls on a block, and the parts as they are read and written.
 pub mod Layout
 pub mod Calls
 pub mod Fronts

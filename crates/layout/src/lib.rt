@@ -3,14 +3,11 @@ mod place;
 mod read;
 mod write;
 
-pub use place::ARRIVED;
-pub use place::ELEMENT;
-pub use place::LIST;
 pub use place::SIZE;
-pub use place::TICKS;
-pub use place::TIMER;
 pub use read::front_in;
 pub use read::store_in;
+pub use read::unpack;
 pub use read::unused_zero;
+pub use write::pack;
 pub use write::pack_front;
 pub use write::pack_whole;

@@ -1,4 +1,7 @@
 // The places of the parts, and the size of a block.
+use packing::HALF_WIDTH;
+use packing::TIMER_WIDTH;
+use packing::WORD_WIDTH;
 use rules::QUEUES;
 use rules::REGIONS;
 use rules::STORE;
@@ -10,11 +13,11 @@ pub(crate) const PRIORITY: usize = 4;
 
 pub(crate) const STATE: usize = PRIORITY + TASKS;
 
-pub const ARRIVED: usize = STATE + TASKS;
+pub(crate) const ARRIVED: usize = STATE + TASKS;
 
-pub const LIST: usize = ARRIVED + 2 * TASKS;
+pub(crate) const LIST: usize = ARRIVED + HALF_WIDTH * TASKS;
 
-pub(crate) const OPERATOR: usize = LIST + 2 * TASKS;
+pub(crate) const OPERATOR: usize = LIST + HALF_WIDTH * TASKS;
 
 pub(crate) const HOLDER: usize = OPERATOR + TASKS;
 
@@ -24,12 +27,12 @@ pub(crate) const BOUND: usize = ENTRIES + REGIONS;
 
 pub(crate) const LENGTH: usize = BOUND + QUEUES;
 
-pub const ELEMENT: usize = LENGTH + QUEUES;
+pub(crate) const ELEMENT: usize = LENGTH + QUEUES;
 
-pub(crate) const CRITERION: usize = ELEMENT + 4 * STORE;
+pub(crate) const CRITERION: usize = ELEMENT + WORD_WIDTH * STORE;
 
-pub const TICKS: usize = CRITERION + STORE;
+pub(crate) const TICKS: usize = CRITERION + STORE;
 
-pub const TIMER: usize = TICKS + 4;
+pub(crate) const TIMER: usize = TICKS + WORD_WIDTH;
 
-pub const SIZE: usize = TIMER + 8 * TIMERS;
+pub const SIZE: usize = TIMER + TIMER_WIDTH * TIMERS;

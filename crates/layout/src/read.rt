@@ -12,28 +12,34 @@ use crate::place::PRIORITY;
 use crate::place::STATE;
 use crate::place::TICKS;
 use crate::place::TIMER;
+use packing::TIMER_WIDTH;
+use packing::UNUSED;
 use packing::take_bytes;
 use packing::take_halves;
 use packing::take_words;
 use packing::timers_at;
 use rules::QUEUES;
 use rules::REGIONS;
+use rules::STORE;
 use rules::TASKS;
 use rules::TIMERS;
+use rules::Table;
 use tables::Front;
 use tables::byte_at;
+use tables::table_of;
 ghost use mathlib.Core.Path.{_≡_};
-ghost use Rattle.layout.specs.Layout.{unusedZero, elementPlace, criterionPlace};
-ghost use Rattle.packing.specs.Bytes.{taken};
+ghost use lib.ListN.{length};
+ghost use Rattle.layout.specs.Layout.{blockSize, unusedZero, unpacked, elementPlace, criterionPlace};
+ghost use Rattle.packing.specs.Bytes.{wordWidth, taken};
 ghost use Rattle.layout.specs.Fronts.{frontTaken};
 
-// Each timer has a byte that is not used, the fourth.
+// Each timer has a byte that is not used.
 pub fn unused_zero(block: &[u8]) -> bool
     ensures { λ r. ⌜ r ≡ unusedZero (now (block .entry)) ⌝ }
 {
     let mut ok = true;
     for i in 0..TIMERS {
-        let at = TIMER + 8 * i + 3;
+        let at = TIMER + TIMER_WIDTH * i + UNUSED;
         let b = byte_at(block, at);
         ok = ok & (b == 0);
     }
@@ -42,7 +48,7 @@ pub fn unused_zero(block: &[u8]) -> bool
 
 // Fills the two arrays with the places of the queues; leaves one as it is that the block has no room for.
 pub fn store_in(block: &[u8], element: &mut [u32], criterion: &mut [u8])
-    ensures elements { λ _. ⌜ now (element .exit) ≡ taken 4 elementPlace (now (block .entry)) (now (element .entry)) ⌝ }
+    ensures elements { λ _. ⌜ now (element .exit) ≡ taken wordWidth elementPlace (now (block .entry)) (now (element .entry)) ⌝ }
     ensures criteria { λ _. ⌜ now (criterion .exit) ≡ taken 1 criterionPlace (now (block .entry)) (now (criterion .entry)) ⌝ }
 {
     take_words(block, ELEMENT, element);
@@ -96,4 +102,15 @@ pub fn front_in(block: &[u8]) -> Front
         ticks: counter,
         timers: timers,
     }
+}
+
+// The whole table, of a block of its size.
+pub fn unpack(block: &[u8]) -> Table
+    requires { ⌜ length (now block) ≡ blockSize ⌝ }
+    ensures { λ r. ⌜ r ≡ unpacked (now (block .entry)) ⌝ }
+{
+    let mut element = [0u32; STORE];
+    let mut criterion = [0u8; STORE];
+    store_in(block, &mut element, &mut criterion);
+    table_of(front_in(block), element, criterion)
 }

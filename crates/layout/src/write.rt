@@ -17,9 +17,13 @@ use packing::put_halves;
 use packing::put_timers;
 use packing::put_words;
 use rules::TIMERS;
+use rules::Table;
 use rules::Timer;
 use tables::Front;
+use tables::front_of;
 ghost use mathlib.Core.Path.{_≡_};
+ghost use lib.ListN.{length};
+ghost use Rattle.layout.specs.Layout.{blockSize, packed};
 ghost use Rattle.layout.specs.Heads.{columnsPut, headsPut, headPut};
 ghost use Rattle.layout.specs.Wholes.{tailPut, wholePut, frontPacked};
 
@@ -83,7 +87,7 @@ fn put_tail(block: &mut [u8], ticks: u32, timers: [Timer; TIMERS])
     put_timers(block, TIMER, timers);
 }
 
-// The whole table. What the block has no room for is left out.
+// The front and the store. What the block has no room for is left out.
 pub fn pack_whole<'a>(f: Front, element: &'a [u32], criterion: &'a [u8], block: &mut [u8])
     ensures { λ _. ⌜ now (block .exit) ≡ wholePut f (now (element .entry)) (now (criterion .entry)) (now (block .entry)) ⌝ }
 {
@@ -92,6 +96,16 @@ pub fn pack_whole<'a>(f: Front, element: &'a [u32], criterion: &'a [u8], block: 
     put_bytes(block, CRITERION, criterion);
     let timers = f.timers;
     put_tail(block, f.ticks, timers);
+}
+
+// The table, in a block of its size.
+pub fn pack(t: Table, block: &mut [u8])
+    requires { ⌜ length (now block) ≡ blockSize ⌝ }
+    ensures { λ _. ⌜ now (block .exit) ≡ packed t ⌝ }
+{
+    let element = t.element;
+    let criterion = t.criterion;
+    pack_whole(front_of(t), &element, &criterion, block);
 }
 
 // The table but for its store, whose bytes stay.

@@ -1,4 +1,4 @@
--- Laws of numbers in bytes.
+-- Laws of numbers in bytes: written and read again, for callers; one by one and in loops, for the functions of this crate.
 pub mod RoundTrips
-pub mod Single
-pub mod Turns
+mod OneNumber
+mod Loops

@@ -7,14 +7,14 @@ use native.Mathlib.Omega.{arith}
 use native.Mathlib.Nat.{one-le-pow, mod-eq-of-lt}
 use lib.Dec.{ltb}
 use lib.ListN.{getD, length, take, drop, length-append, length-drop}
-use lib.Seq.{take-at, drop-at, take-add, drop-cons, drop-drop, getD-drop, getD-append-add, length-take-le}
+use lib.Seq.{take-at, drop-at, take-add, drop-cons, getD-drop, getD-append-add, length-take-le}
 use borrow.Author.Tests.{ltb-true, lt-ltb}
 use Rattle.rules.specs.declared.Timer.{Timer}
 use Rattle.rules.specs.Words.{all, every}
 use Rattle.rules.proofs.Bools.{given}
 use Rattle.rules.proofs.Lists.{every-head, every-tail, every-cons, every-nil, every-in, every-append, every-take, every-drop}
-use Rattle.packing.specs.Bytes.{number, bytes, numbers, spread}
-use Rattle.packing.specs.Timers.{timerWidth, unusedPlace, timerIn, timerBytes, timersIn, timersBytes}
+use Rattle.packing.specs.Bytes.{wordWidth, number, bytes, numbers, spread}
+use Rattle.packing.specs.Timers.{timerWidth, unusedPlace, datePlace, timerIn, timerBytes, timersIn, timersBytes}
 
 -- a number of so many bytes
 abbrev pub fits : ℕ → ℕ → Bool
@@ -35,7 +35,7 @@ unfolding bytes
 bytes-small zero n = every-nil isByte
 bytes-small (suc width) n = every-cons isByte (n % 256) (bytes width (n / 256)) (lt-ltb (n % 256) 256 (omega arith)) (bytes-small width (n / 256))
 
-pub number-bytes : (width n : ℕ) → fits width n ≡ true → number (bytes width n) ≡ n
+number-bytes : (width n : ℕ) → fits width n ≡ true → number (bytes width n) ≡ n
 unfolding number bytes
 number-bytes zero n h = let l = ltb-true n 1 h in omega arith
 number-bytes (suc width) n h =
@@ -43,7 +43,7 @@ number-bytes (suc width) n h =
     let ih = number-bytes width (n / 256) (lt-ltb (n / 256) (256 ^ width) (omega arith)) in
     omega arith
 
-pub bytes-number : (bs : List ℕ) → every isByte bs ≡ true → bytes (length bs) (number bs) ≡ bs
+bytes-number : (bs : List ℕ) → every isByte bs ≡ true → bytes (length bs) (number bs) ≡ bs
 unfolding number bytes
 bytes-number [] h = refl
 bytes-number (b ∷ bs) h =
@@ -63,11 +63,6 @@ number-small (suc width) (b ∷ bs) h =
     omega arith
 
 -- ---- parts of a list, one behind the other
-
--- the part behind a place, where it is known what stands from that place on
-pub drop-next {ℓ} : {A : Type ℓ} (place n : ℕ) (block part rest : List A) → drop place block ≡ part ++ rest → length part ≡ n
-    → drop (place + n) block ≡ rest
-drop-next place n block part rest e l = sym (drop-drop n place block) ∙ ap (drop n) e ∙ drop-at part rest n l
 
 -- the list up to a place, and one part more
 pub take-next {ℓ} : {A : Type ℓ} (place n : ℕ) (block front part : List A) → front ≡ take place block → part ≡ take n (drop place block)
@@ -136,7 +131,7 @@ byte-at i bs h l =
 -- ---- timers
 
 unfoldable pub timerFits : Timer → Bool
-timerFits r = all (fits 1 (r .armed) ∷ fits 1 (r .owner) ∷ fits 1 (r .event) ∷ fits 4 (r .date) ∷ [])
+timerFits r = all (fits 1 (r .armed) ∷ fits 1 (r .owner) ∷ fits 1 (r .event) ∷ fits wordWidth (r .date) ∷ [])
 
 pub timer-length : (r : Timer) → length (timerBytes r) ≡ timerWidth
 unfolding timerBytes bytes
@@ -162,7 +157,7 @@ timer-read r rest h =
     (mod-eq-of-lt (ltb-true (r .armed) 256 a))
     (mod-eq-of-lt (ltb-true (r .owner) 256 o))
     (mod-eq-of-lt (ltb-true (r .event) 256 e))
-    (number-bytes 4 (r .date) d)
+    (number-bytes wordWidth (r .date) d)
 
 -- the timer that stands in front, written again
 timer-written : (bs : List ℕ) → every isByte bs ≡ true → timerWidth ≤ length bs → getD bs unusedPlace 0 ≡ 0
@@ -170,11 +165,11 @@ timer-written : (bs : List ℕ) → every isByte bs ≡ true → timerWidth ≤ 
 unfolding timerBytes timerIn
 timer-written bs h l z =
     let byte : (i : ℕ) → i < timerWidth → bytes 1 (getD bs i 0) ≡ take 1 (drop i bs) = λ i k. byte-at i bs h (omega arith) in
-    take-next 4 4 bs _ _
+    take-next datePlace wordWidth bs _ _
     (take-next 3 1 bs _ _
     (take-next 2 1 bs _ _ (take-next 1 1 bs _ _ (byte 0 (omega arith)) (byte 1 (omega arith))) (byte 2 (omega arith)))
     (rw z at (byte 3 (omega arith))))
-    (bytes-front 4 (drop 4 bs) (every-drop isByte 4 bs h) (rw length-drop (omega arith)))
+    (bytes-front wordWidth (drop datePlace bs) (every-drop isByte datePlace bs h) (rw length-drop (omega arith)))
 
 pub timers-length : (rs : List Timer) → length (timersBytes rs) ≡ timerWidth * length rs
 unfolding timersBytes

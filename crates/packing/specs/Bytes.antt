@@ -5,6 +5,16 @@ use mathlib.Core.List.{List, [], _∷_, _++_}
 use lib.Dec.{leb}
 use lib.ListN.{length, take, drop}
 
+-- ---- how many bytes a number has
+
+abbrev pub halfWidth : ℕ
+halfWidth = 2
+
+abbrev pub wordWidth : ℕ
+wordWidth = 4
+
+-- ---- numbers and their bytes
+
 -- the number that the bytes stand for
 unfoldable pub number : List ℕ → ℕ
 number [] = 0

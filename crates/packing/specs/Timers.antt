@@ -6,7 +6,7 @@ use lib.ListN.{getD, length, take, drop, replicate}
 use Rattle.rules.specs.declared.Timer.{Timer}
 use Rattle.rules.specs.Numbers.{timerRoom}
 use Rattle.rules.specs.Timers.{idle}
-use Rattle.packing.specs.Bytes.{number, bytes, over, hasRoom}
+use Rattle.packing.specs.Bytes.{wordWidth, number, bytes, over, hasRoom}
 
 abbrev pub timerWidth : ℕ
 timerWidth = 8
@@ -15,11 +15,14 @@ timerWidth = 8
 abbrev pub unusedPlace : ℕ
 unusedPlace = 3
 
+abbrev pub datePlace : ℕ
+datePlace = 4
+
 unfoldable pub timerIn : List ℕ → Timer
-timerIn bs = record { armed = getD bs 0 0; owner = getD bs 1 0; event = getD bs 2 0; date = number (take 4 (drop 4 bs)) }
+timerIn bs = record { armed = getD bs 0 0; owner = getD bs 1 0; event = getD bs 2 0; date = number (take wordWidth (drop datePlace bs)) }
 
 unfoldable pub timerBytes : Timer → List ℕ
-timerBytes r = bytes 1 (r .armed) ++ bytes 1 (r .owner) ++ bytes 1 (r .event) ++ bytes 1 0 ++ bytes 4 (r .date)
+timerBytes r = bytes 1 (r .armed) ++ bytes 1 (r .owner) ++ bytes 1 (r .event) ++ bytes 1 0 ++ bytes wordWidth (r .date)
 
 -- as many timers, from the front
 unfoldable pub timersIn : ℕ → List ℕ → List Timer

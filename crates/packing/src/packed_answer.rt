@@ -1,10 +1,11 @@
 // An answer as one number, which C can take from a register.
 use rules::Answer;
+use rules::NOBODY;
 ghost use mathlib.Core.Path.{_≡_};
 ghost use Rattle.packing.specs.Answers.{answerNumber};
 
-// The number of 10, with 255 for the elected task.
-pub const NOT_A_TABLE: u64 = 65290;
+// The number of 10, with nobody for the elected task.
+pub const NOT_A_TABLE: u64 = 10 + 256 * (NOBODY as u64);
 
 // Bits 0 to 7 are the status, 8 to 15 the elected task, 16 to 23 the key and 32 to 63 the value; the byte between is 0.
 pub fn answer_number(r: Answer) -> u64

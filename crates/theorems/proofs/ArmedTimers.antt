@@ -10,7 +10,6 @@ use lib.ListN.{length, set, List·getD-map}
 use lib.Seq.{getD-set-same, getD-set-other}
 use borrow.Author.Tests.{eqb-true, eqb-false, ne-eqb, ltb-true, leb-true, lt-ltb, le-leb, not-true}
 use Rattle.rules.specs.declared.Timer.{Timer}
-use Rattle.rules.specs.declared.Table.{Table}
 use Rattle.rules.specs.Numbers.{eventEnd, tickEnd, longestDelay}
 use Rattle.rules.specs.Words.{every, altered}
 use Rattle.rules.specs.Tasks.{stopped}
@@ -18,7 +17,7 @@ use Rattle.rules.specs.Timers.{later, ahead, idle, isArmed, asArmed, armedBy, d
 use Rattle.rules.specs.Tables.{timerOf}
 use Rattle.rules.specs.Validity.{timerRight, timersRight}
 use Rattle.rules.specs.Refusals.{stoppedAt}
-use Rattle.rules.specs.Effects.{stoppedTable}
+use Rattle.theorems.specs.Tasks.{DisarmIdle, StopDisarms}
 use Rattle.rules.proofs.Bools.{given, shown, and-left, and-right, both, not-intro}
 use Rattle.rules.proofs.Lists.{every-head, every-tail, every-cons, every-nil}
 use Rattle.rules.proofs.Clock.{later-fits, ahead-later, ahead-next, reached}
@@ -49,8 +48,8 @@ pub record Counting (tasks : ℕ) (states : List ℕ) (ticks : ℕ) (r : Timer) 
   pub owner-there : r .owner < tasks
   pub awake : stoppedAt states (r .owner) ≡ false
   pub event-there : r .event < eventEnd
-  pub date-fits : r .date < tickEnd
-  pub to-come : 0 < ahead (r .date) ticks
+  date-fits : r .date < tickEnd
+  to-come : 0 < ahead (r .date) ticks
   pub near : ahead (r .date) ticks ≤ longestDelay
 
 module _ {tasks : ℕ} {states : List ℕ} {ticks : ℕ} (r : Timer) where
@@ -67,7 +66,7 @@ module _ {tasks : ℕ} {states : List ℕ} {ticks : ℕ} (r : Timer) where
         near = leb-true _ _ n;
       }
 
-  pub timer-shown : isArmed r ≡ true → Counting tasks states ticks r → timerRight tasks states ticks r ≡ true
+  timer-shown : isArmed r ≡ true → Counting tasks states ticks r → timerRight tasks states ticks r ≡ true
   unfolding timerRight
   timer-shown a c =
       rw a
@@ -192,18 +191,18 @@ disarm-others task r n = go (isArmed r) refl
     go true a = simp (a, ne-eqb (r .owner) task (λ s. eqb-false task (r .owner) n (sym s)))
     go false a = simp a
 
-pub disarm-idle : (task : ℕ) → disarmed task idle ≡ idle
+pub disarm-idle : DisarmIdle
 disarm-idle task = refl
 
 -- and all of them
-pub disarm-own : (task : ℕ) (r : Timer) → armedBy task (disarmed task r) ≡ false
+disarm-own : (task : ℕ) (r : Timer) → armedBy task (disarmed task r) ≡ false
 disarm-own task r = go (armedBy task r) refl
   where
     go : (b : Bool) → armedBy task r ≡ b → armedBy task (disarmed task r) ≡ false
     go true a = rw a refl
     go false a = rw a a
 
-pub stop-disarms : (t : Table) (task i : ℕ) → armedBy task (timerOf (stoppedTable task t) i) ≡ false
+pub stop-disarms : StopDisarms
 stop-disarms t task i = ap (armedBy task) (List·getD-map (disarmed task) (t .timers) i idle) ∙ disarm-own task (timerOf t i)
 
 -- ---- all timers

@@ -33,7 +33,7 @@ module _ (i : ℕ) (r : Task) (t : Table) where
   shaped-with = simp length-set
 
   -- the task itself, and another
-  pub task-same : shaped t ≡ true → i < taskRoom → taskOf (withTask i r t) i ≡ r
+  task-same : shaped t ≡ true → i < taskRoom → taskOf (withTask i r t) i ≡ r
   task-same s h k =
       let l = columns-long t s in
       record {
@@ -52,10 +52,10 @@ module _ (i : ℕ) (r : Task) (t : Table) where
   )
 
   -- the last change of one task counts, and changes of two change places
-  pub with-again : (s : Task) → withTask i r (withTask i s t) ≡ withTask i r t
+  with-again : (s : Task) → withTask i r (withTask i s t) ≡ withTask i r t
   with-again s = simp set-set
 
-  pub with-comm : (j : ℕ) (s : Task) → i ≢ j → withTask i r (withTask j s t) ≡ withTask j s (withTask i r t)
+  with-comm : (j : ℕ) (s : Task) → i ≢ j → withTask i r (withTask j s t) ≡ withTask j s (withTask i r t)
   with-comm j s n = simp (
     set-comm (t .state) j i (s .state) (r .state) (λ e. n (sym e)),
     set-comm (t .arrived) j i (s .arrived) (r .arrived) (λ e. n (sym e)),

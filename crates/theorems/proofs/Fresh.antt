@@ -159,7 +159,8 @@ module _ (tasks regions queues : ℕ) (priorities bounds : List ℕ) (r : Range 
   unfolding boundFits bound
   bound-right q n z true e =
       let l = ltb-true q queues e in
-      rw (e, z) (both {a = boundInRange (getD bound q 0)} (column-in queueRoom queues bounds (r .queues-room) (r .bounds-long) boundInRange (r .bounds-fit) q l) (le-leb 0 (getD bound q 0) (omega arith)))
+      let fits = column-in queueRoom queues bounds (r .queues-room) (r .bounds-long) boundInRange (r .bounds-fit) q l in
+      rw (e, z) (both {a = boundInRange (getD bound q 0)} fits (le-leb 0 (getD bound q 0) (omega arith)))
   bound-right q n z false e =
       rw (e, z, column-past queueRoom queues bounds (r .queues-room) (r .bounds-long) q (ltb-false q queues e)) refl
 

@@ -11,7 +11,7 @@ use borrow.Author.Tests.{eqb-true, eqb-false, eq-eqb, ne-eqb, ltb-true, ltb-fals
 use Rattle.rules.specs.declared.Task.{Task}
 use Rattle.rules.specs.declared.Table.{Table}
 use Rattle.rules.specs.declared.Call.{Call}
-use Rattle.rules.specs.Numbers.{storeSize, listEnd, eventEnd, criterionEnd, timerRoom, longestDelay, nobody, outside}
+use Rattle.rules.specs.Numbers.{storeSize, listEnd, eventEnd, criterionEnd, timerRoom, longestDelay, nobody, outside, START, STOP, END, SIGNAL, WAIT, CLEAR, ENTER, EXIT, SEND, RETRIEVE, ARM, DISARM, TICK}
 use Rattle.rules.specs.Words.{isZero, byOperation}
 use Rattle.rules.specs.Tasks.{isStopped, isReady, asStarted, asStopped, signalled, waited, asCleared}
 use Rattle.rules.specs.Regions.{held}
@@ -85,20 +85,22 @@ module _ (t : Table) (p : Parts t) where
   -- one task stopped
   keep-stopped : (i : ℕ) (l : i < t .tasks) → (isZero (held (t .holder)) ≡ false → held (t .holder) - 1 ≡ i → ⊥) → valid (settled (stoppedTable i t)) ≡ true
   keep-stopped i l h =
+      let r = asStopped (taskOf t i) in
       valid-parts _
-      (keep-task t p i (asStopped (taskOf t i)) l (stopped-fits (taskOf t i) (fit i l)) (λ e f g. absurd (h e f)) (map (disarmed i) (t .timers)) (length-map (t .timers) (disarmed i)) (timers-stopped t p i (asStopped (taskOf t i)) l))
+      (keep-task t p i r l (stopped-fits (taskOf t i) (fit i l)) (λ e f g. absurd (h e f))
+      (map (disarmed i) (t .timers)) (length-map (t .timers) (disarmed i)) (timers-stopped t p i r l))
 
   module _ (c : Call) where
     abbrev Keeps : ℕ → Type 0
     Keeps n = Accepted t (numbered n c) → valid (settled (byOperation nothing n operations t c .table)) ≡ true
 
-    start-keeps : Keeps 0
+    start-keeps : Keeps START
     unfolding missing
     start-keeps o =
         let l = there (t .tasks) (c .a) (o .nothing-missing) in
         keep-changed (c .a) asStarted l (λ r k s. started-fits r k) (λ e f g. refl) refl
 
-    stop-keeps : Keeps 1
+    stop-keeps : Keeps STOP
     unfolding missing leaves
     stop-keeps o =
         let l = there (t .tasks) (c .a) (o .nothing-missing) in
@@ -111,13 +113,13 @@ module _ (t : Table) (p : Parts t) where
             true≢false (simp (eq-eqb (c .a) (c .caller) same, e) at (o .may-leave))
 
     -- the caller leaves, so no region is occupied
-    end-keeps : Keeps 2
+    end-keeps : Keeps END
     unfolding leaves
     end-keeps o =
         let l = caller-below (c .caller) (caller-of t (c .caller) (o .barred) (o .not-elected)) in
         keep-stopped (c .caller) l (λ e f. true≢false (simp e at (o .may-leave)))
 
-    signal-keeps : Keeps 3
+    signal-keeps : Keeps SIGNAL
     unfolding missing wrongState
     signal-keeps o =
         let l = there (t .tasks) (c .b) (or-right (absent eventEnd (c .a)) _ (o .nothing-missing)) in
@@ -125,7 +127,7 @@ module _ (t : Table) (p : Parts t) where
         keep-changed (c .b) (signalled (c .a)) l (λ r k s. signalled-fits (c .a) e _ r (rw s (o .right-state)) k) (λ e f g. signalled-ready (c .a) (taskOf t (c .b)) g)
         (signalled-stopped (c .a) (taskOf t (c .b)) ∙ o .right-state)
 
-    wait-keeps : Keeps 4
+    wait-keeps : Keeps WAIT
     unfolding missing leaves
     wait-keeps o =
         let w = caller-of t (c .caller) (o .barred) (o .not-elected) in
@@ -137,40 +139,40 @@ module _ (t : Table) (p : Parts t) where
         (λ e f g. absurd (true≢false (simp e at (o .may-leave))))
         (waited-awake (c .a) (c .b) (taskOf t (c .caller)) (caller-awake (c .caller) w))
 
-    clear-keeps : Keeps 5
+    clear-keeps : Keeps CLEAR
     clear-keeps o =
         let w = caller-of t (c .caller) (o .barred) (o .not-elected) in
         let l = caller-below (c .caller) w in
         keep-changed (c .caller) (asCleared (c .a)) l (λ r k s. cleared-fits r k (c .a) (rw s (caller-ready (c .caller) w))) (λ e f g. g) (caller-awake (c .caller) w)
 
-    enter-keeps : Keeps 6
+    enter-keeps : Keeps ENTER
     unfolding missing
     enter-keeps o =
         let w = caller-of t (c .caller) (o .barred) (o .not-elected) in
         let l = there (t .regions) (c .a) (o .nothing-missing) in
         valid-parts _ (keep-region t p (c .caller) (w .is) (w .one) (c .a) _ l (enter-right t p (c .caller) (w .is) (w .one) (c .a) l (o .may-enter)))
 
-    exit-keeps : Keeps 7
+    exit-keeps : Keeps EXIT
     unfolding missing
     exit-keeps o =
         let w = caller-of t (c .caller) (o .barred) (o .not-elected) in
         let l = there (t .regions) (c .a) (o .nothing-missing) in
         valid-parts _ (keep-region t p (c .caller) (w .is) (w .one) (c .a) _ l (exit-right t p (c .caller) (w .is) (w .one) (c .a) l))
 
-    send-keeps : Keeps 8
+    send-keeps : Keeps SEND
     unfolding missing
     send-keeps o =
         let l = there (t .queues) (c .a) (or-left _ (absent criterionEnd (c .c)) (o .nothing-missing)) in
         let small = there criterionEnd (c .c) (or-right (absent (t .queues) (c .a)) _ (o .nothing-missing)) in
         valid-parts _ (keep-send t p (c .a) l (c .b) (c .c) (leb-false (boundOf t (c .a)) (length (queueOf t (c .a))) (o .not-full)) (lt-ltb (c .c) criterionEnd small))
 
-    retrieve-keeps : Keeps 9
+    retrieve-keeps : Keeps RETRIEVE
     unfolding missing
     retrieve-keeps o =
         let l = there (t .queues) (c .a) (or-left _ (badKey (c .c)) (o .nothing-missing)) in
         valid-parts _ (keep-retrieve t p (c .a) l (place (c .c) (queueOf t (c .a))) (queue-short t p (c .a) l))
 
-    arm-keeps : Keeps 10
+    arm-keeps : Keeps ARM
     unfolding missing
     arm-keeps o =
         let w = caller-of t (c .caller) (o .barred) (o .not-elected) in
@@ -181,10 +183,10 @@ module _ (t : Table) (p : Parts t) where
         let most = ltb-false longestDelay (c .c) (or-right (isZero (c .c)) _ delay) in
         valid-parts _ (keep-arm t p (c .a) (c .caller) (c .b) (c .c) (caller-below (c .caller) w) (caller-awake (c .caller) w) e (omega arith) most)
 
-    disarm-keeps : Keeps 11
+    disarm-keeps : Keeps DISARM
     disarm-keeps o = valid-parts _ (keep-disarm t p (c .a) (c .caller))
 
-    tick-keeps : Keeps 12
+    tick-keeps : Keeps TICK
     tick-keeps o = valid-parts _ (keep-tick t p)
 
     effect-keeps : Accepted t c → valid t ≡ true → valid (settled (effect t c .table)) ≡ true

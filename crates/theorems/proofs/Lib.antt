@@ -1,5 +1,4 @@
--- Laws of the columns, of one task under signals, of the holders and of one timer.
--- The proofs of what `specs/` states.
+-- The proofs of what `specs/` states, and the laws that they stand on: of columns, tasks, regions, queues and timers.
 pub mod Columns
 pub mod Tasks
 pub mod HeldRegions

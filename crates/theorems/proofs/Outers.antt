@@ -16,7 +16,7 @@ use Rattle.theorems.proofs.Tasks.{signalled-comm}
 use Rattle.theorems.proofs.Columns.{changed-comm}
 use Rattle.theorems.specs.Happenings.{Signal, Outer, signal, tick}
 use Rattle.theorems.proofs.Timers.{ring, ring-shaped, ringing-stopped, ticked-shaped}
-use Rattle.theorems.proofs.Signals.{bad, signalStatus, signalTable, heard-room, signal-shaped, status-same, signal-comm}
+use Rattle.theorems.proofs.Signals.{bad, signalStatus, signalTable, signal-room, signal-shaped, status-same, signal-comm}
 
 abbrev pub outerStatus : ℕ → Table → Outer → ℕ
 outerStatus n t (signal s) = signalStatus n t s
@@ -60,7 +60,7 @@ module _ (n : ℕ) (few : n ≤ taskRoom) (t : Table) (shape : shaped t ≡ true
           → ticked (signalTable n t s) ≡ cond (isZero (signalStatus n t s)) (changed (s .task) (signalled (s .event)) (ticked t)) (ticked t)
       go true z =
           simp z
-          (ap (withTimers m (map (rung m) (t .timers))) (ringing-changed m (t .timers) t shape (s .task) (heard-room n few t shape s z) (s .event)))
+          (ap (withTimers m (map (rung m) (t .timers))) (ringing-changed m (t .timers) t shape (s .task) (signal-room n few t shape s z) (s .event)))
       go false z = simp z
 
   -- ---- any two

@@ -64,7 +64,7 @@ module _ (t : Table) (p : Parts t) (q : ℕ) (l : q < t .queues) where
             )
             (below-at _ queueRoom j (p .queues) k)
 
-    pub keep-queue : Parts (settled (withQueue q queue t))
+    keep-queue : Parts (settled (withQueue q queue t))
     unfolding shaped criteriaInRange
     keep-queue =
         let s = sound t p q room in

@@ -176,7 +176,9 @@ module _ (t : Table) (p : Parts t) (i : ℕ) (r : Task) (l : i < t .tasks) where
   pub timers-awake : isStopped r ≡ false → timersRight (t .tasks) (set (t .state) i (r .state)) (t .ticks) (t .timers) ≡ true
   timers-awake n =
       timers-shown (t .tasks) _ (t .ticks) (t .timers) (counter-fits _ _ _ _ (p .timers))
-      (every-kept (timerRight (t .tasks) (t .state) (t .ticks)) _ (λ q h. awake-right (t .tasks) (t .state) (t .ticks) q h i (r .state) (rw (columns-long t (p .shape) .state) room) n) (t .timers) (each-right _ _ _ _ (p .timers)))
+      (every-kept (timerRight (t .tasks) (t .state) (t .ticks)) _
+      (λ q h. awake-right (t .tasks) (t .state) (t .ticks) q h i (r .state) (rw (columns-long t (p .shape) .state) room) n)
+      (t .timers) (each-right _ _ _ _ (p .timers)))
 
   -- one that is stopped owns none
   pub timers-stopped : timersRight (t .tasks) (set (t .state) i (r .state)) (t .ticks) (map (disarmed i) (t .timers)) ≡ true

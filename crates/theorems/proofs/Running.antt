@@ -11,7 +11,7 @@ use lib.Seq.{getD-set-same}
 use borrow.Author.Tests.{eqb-true, eqb-false, ltb-true, ltb-false, leb-true, not-false}
 use Rattle.rules.specs.declared.Table.{Table}
 use Rattle.rules.specs.declared.Call.{Call}
-use Rattle.rules.specs.Numbers.{taskRoom, priorityEnd, nobody, outside, SIGNAL, EXIT, TICK}
+use Rattle.rules.specs.Numbers.{taskRoom, priorityEnd, nobody, outside, SIGNAL, EXIT, TICK, ENTER}
 use Rattle.rules.specs.Words.{isZero, byOperation}
 use Rattle.rules.specs.Regions.{held, occupied, holderOf, entered, exited}
 use Rattle.rules.specs.Timers.{later}
@@ -126,21 +126,21 @@ module _ (t : Table) (p : Parts t) (c : Call) (h : occupied (t .holder) ≡ true
   untouched : {n : ℕ} → Accepted t (numbered n c) → occupied (t .holder) ≡ true → holderOf (t .holder) ≡ t .elected
   untouched o k = sym (holder-elected t p h)
 
-  enter-stays : Stays 6 (byOperation nothing 6 operations t c)
+  enter-stays : Stays ENTER (byOperation nothing ENTER operations t c)
   unfolding missing
   enter-stays o =
       let w = caller-of t (c .caller) (o .barred) (o .not-elected) in
       let l = there (t .regions) (c .a) (o .nothing-missing) in
       own _ w (held-after t p (c .caller) (w .is) (w .one) (c .a) (entered (c .caller) (regionOf t (c .a))) l (enter-right t p (c .caller) (w .is) (w .one) (c .a) l (o .may-enter)))
 
-  exit-stays : Stays 7 (byOperation nothing 7 operations t c)
+  exit-stays : Stays EXIT (byOperation nothing EXIT operations t c)
   unfolding missing
   exit-stays o =
       let w = caller-of t (c .caller) (o .barred) (o .not-elected) in
       let l = there (t .regions) (c .a) (o .nothing-missing) in
       own _ w (held-after t p (c .caller) (w .is) (w .one) (c .a) (exited (c .caller) (regionOf t (c .a))) l (exit-right t p (c .caller) (w .is) (w .one) (c .a) l))
 
-  tick-stays : Stays 12 (byOperation nothing 12 operations t c)
+  tick-stays : Stays TICK (byOperation nothing TICK operations t c)
   tick-stays o k = ap holderOf (ticked-holder t) ∙ sym (holder-elected t p h)
 
   effect-stays : Accepted t c → occupied (effect t c .table .holder) ≡ true → holderOf (effect t c .table .holder) ≡ t .elected
@@ -173,7 +173,7 @@ module _ (t : Table) (p : Parts t) (c : Call) (h : occupied (t .holder) ≡ true
   not-ended : {n : ℕ} → Accepted t (numbered n c) → occupied (t .holder) ≡ false → (n ≡ EXIT) × (c .caller ≡ holderOf (t .holder))
   not-ended o k = absurd (true≢false (sym h ∙ k))
 
-  enter-occupies : Ended 6 (byOperation nothing 6 operations t c)
+  enter-occupies : Ended 6 (byOperation nothing ENTER operations t c)
   unfolding missing
   enter-occupies o k =
       let l = there (t .regions) (c .a) (o .nothing-missing) in
@@ -182,10 +182,10 @@ module _ (t : Table) (p : Parts t) (c : Call) (h : occupied (t .holder) ≡ true
       let some : suc (c .caller) ≡ 0 = sym (getD-set-same (t .holder) (c .a) (suc (c .caller)) 0 (region-there t p (c .a) l)) ∙ held-free hs none (c .a) in
       absurd (omega arith)
 
-  exit-ends : Ended 7 (byOperation nothing 7 operations t c)
+  exit-ends : Ended 7 (byOperation nothing EXIT operations t c)
   exit-ends o k = (refl, caller-of t (c .caller) (o .barred) (o .not-elected) .is ∙ holder-elected t p h)
 
-  tick-occupies : Ended 12 (byOperation nothing 12 operations t c)
+  tick-occupies : Ended 12 (byOperation nothing TICK operations t c)
   tick-occupies o k = not-ended o (ap occupied (sym (ticked-holder t)) ∙ k)
 
   ended : Accepted t c → occupied (effect t c .table .holder) ≡ false → (c .operation ≡ EXIT) × (c .caller ≡ holderOf (t .holder))

@@ -28,10 +28,10 @@ unfoldable pub signalTable : ℕ → Table → Signal → Table
 signalTable n t s = cond (isZero (signalStatus n t s)) (changed (s .task) (signalled (s .event)) t) t
 
 module _ (n : ℕ) (few : n ≤ taskRoom) (t : Table) (shape : shaped t ≡ true) where
-  -- a signal that is heard is for a task
-  pub heard-room : (s : Signal) → isZero (signalStatus n t s) ≡ true → s .task < taskRoom
+  -- a signal that is accepted is for a task
+  pub signal-room : (s : Signal) → isZero (signalStatus n t s) ≡ true → s .task < taskRoom
   unfolding signalStatus bad
-  heard-room s z = go (bad n s) refl
+  signal-room s z = go (bad n s) refl
     where
       go : (b : Bool) → bad n s ≡ b → s .task < taskRoom
       go true e = let no : _≡_ {A = ℕ} 14 0 = rw e at (eqb-true (signalStatus n t s) 0 z) in absurd (omega arith)
@@ -54,7 +54,7 @@ module _ (n : ℕ) (few : n ≤ taskRoom) (t : Table) (shape : shaped t ≡ true
       go true z =
           rw z
           (ap (λ x. cond (bad n s′) 14 (cond x 15 0))
-          (changed-keeps t shape (s .task) (heard-room s z) isStopped (signalled (s .event)) (signalled-stopped (s .event)) (s′ .task)))
+          (changed-keeps t shape (s .task) (signal-room s z) isStopped (signalled (s .event)) (signalled-stopped (s .event)) (s′ .task)))
       go false z = rw z
 
   pub signal-comm : (s s′ : Signal) → signalTable n (signalTable n t s) s′ ≡ signalTable n (signalTable n t s′) s
@@ -66,7 +66,7 @@ module _ (n : ℕ) (few : n ≤ taskRoom) (t : Table) (shape : shaped t ≡ true
           ≡ cond (isZero (signalStatus n t s)) (changed (s .task) (signalled (s .event)) (signalTable n t s′)) (signalTable n t s′)
       go true true z z′ =
           simp (z, z′)
-          (changed-comm t shape (s′ .task) (heard-room s′ z′) (signalled (s′ .event)) (signalled (s .event)) (signalled-comm (s′ .event) (s .event)) (s .task))
+          (changed-comm t shape (s′ .task) (signal-room s′ z′) (signalled (s′ .event)) (signalled (s .event)) (signalled-comm (s′ .event) (s .event)) (s .task))
       go true false z z′ = simp (z, z′)
       go false true z z′ = simp (z, z′)
       go false false z z′ = simp (z, z′)

@@ -31,8 +31,8 @@ use Rattle.theorems.proofs.Signals.{bad, signalStatus, signalTable}
 use Rattle.theorems.proofs.Outers.{outerStatus, outerTable}
 
 -- the tasks, timers and counter of one table and the rest of another
-abbrev joined : Table → Table → Table
-joined tasks rest =
+abbrev combined : Table → Table → Table
+combined tasks rest =
     record {
       tasks = rest .tasks;
       regions = rest .regions;
@@ -55,7 +55,7 @@ joined tasks rest =
 
 -- with the elected task that they give
 abbrev pub mixed : Table → Table → Table
-mixed tasks rest = settled (joined tasks rest)
+mixed tasks rest = settled (combined tasks rest)
 
 pub valid-mixed : (t : Table) → valid t ≡ true → t ≡ mixed t t
 valid-mixed t v = ap (λ e. withElected e t) (parts-of t v .elected)
@@ -63,14 +63,14 @@ valid-mixed t v = ap (λ e. withElected e t) (parts-of t v .elected)
 -- ---- what comes from outside
 
 -- the timers that are due signal tasks alone
-ringing-mixed : (n : ℕ) (rs : List Timer) (who : ℕ) (k t : Table) → ringing n rs (withElected who (joined k t)) ≡ withElected who (joined (ringing n rs k) t)
+ringing-mixed : (n : ℕ) (rs : List Timer) (who : ℕ) (k t : Table) → ringing n rs (withElected who (combined k t)) ≡ withElected who (combined (ringing n rs k) t)
 unfolding ringing
 ringing-mixed n [] who k t = refl
 ringing-mixed n (r ∷ rs) who k t = ap (ringing n rs) (go (isDue n r)) ∙ ringing-mixed n rs who (ring n r k) t
   where
     go : (b : Bool)
-        → cond b (changed (r .owner) (signalled (r .event)) (withElected who (joined k t))) (withElected who (joined k t))
-        ≡ withElected who (joined (cond b (changed (r .owner) (signalled (r .event)) k) k) t)
+        → cond b (changed (r .owner) (signalled (r .event)) (withElected who (combined k t))) (withElected who (combined k t))
+        ≡ withElected who (combined (cond b (changed (r .owner) (signalled (r .event)) k) k) t)
     go true = refl
     go false = refl
 
@@ -78,7 +78,7 @@ ticked-mixed : (k t : Table) → settled (ticked (mixed k t)) ≡ mixed (ticked 
 unfolding ticked
 ticked-mixed k t =
     let n = later (k .ticks) 1 in
-    ap (λ u. settled (withTimers n (map (rung n) (k .timers)) u)) (ringing-mixed n (k .timers) (electionOf (joined k t)) k t)
+    ap (λ u. settled (withTimers n (map (rung n) (k .timers)) u)) (ringing-mixed n (k .timers) (electionOf (combined k t)) k t)
 
 module _ (k t : Table) (v : valid (mixed k t) ≡ true) where
   abbrev Came : Outer → Type 0

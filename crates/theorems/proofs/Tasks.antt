@@ -5,7 +5,8 @@ use mathlib.Core.Bool.{Bool, true, false, _&&_, false≢true}
 use borrow.Author.Tests.{eqb-true}
 use Rattle.rules.specs.declared.Task.{Task}
 use Rattle.rules.specs.Events.{met, arrive}
-use Rattle.rules.specs.Tasks.{isStopped, isReady, isWaiting, withArrived, woken, signalled}
+use Rattle.rules.specs.Tasks.{isStopped, isWaiting, withArrived, woken, signalled}
+use Rattle.theorems.specs.Tasks.{SignalledArrived, SignalledTwice, SignalledComm, SignalledStopped, SignalledReady, WokenUnmet}
 use Rattle.rules.proofs.Bools.{and-left, and-right, both}
 use Rattle.rules.proofs.Events.{arrive-comm, arrive-twice, met-more}
 
@@ -37,16 +38,13 @@ arrives-twice : (e : ℕ) (r : Task) → arrives e (arrives e r) ≡ arrives e r
 unfolding arrives
 arrives-twice e r = ap (λ a. withArrived a r) (arrive-twice e (r .arrived))
 
--- two signals to one task change places
-pub signalled-comm : (d e : ℕ) (r : Task) → signalled d (signalled e r) ≡ signalled e (signalled d r)
+pub signalled-comm : SignalledComm
 signalled-comm d e r = twice d e r ∙ ap woken (arrives-comm d e r) ∙ sym (twice e d r)
 
--- a second signal of the same event changes nothing
-pub signalled-twice : (e : ℕ) (r : Task) → signalled e (signalled e r) ≡ signalled e r
+pub signalled-twice : SignalledTwice
 signalled-twice e r = twice e e r ∙ ap woken (arrives-twice e r) ∙ sym (signalled-is e r)
 
--- a stopped task stays stopped and a ready one ready; nobody else becomes stopped
-pub signalled-stopped : (e : ℕ) (r : Task) → isStopped (signalled e r) ≡ isStopped r
+pub signalled-stopped : SignalledStopped
 unfolding signalled woken
 signalled-stopped e r = go (isWaiting r && met (r .operator) (r .list) (arrive e (r .arrived))) refl
   where
@@ -54,12 +52,11 @@ signalled-stopped e r = go (isWaiting r && met (r .operator) (r .list) (arrive e
     go true h = rw (h, eqb-true (r .state) 2 (and-left _ _ h))
     go false h = rw h
 
-pub signalled-ready : (e : ℕ) (r : Task) → isReady r ≡ true → isReady (signalled e r) ≡ true
+pub signalled-ready : SignalledReady
 unfolding signalled woken
 signalled-ready e r h = simp (eqb-true (r .state) 1 h)
 
--- the event has arrived
-pub signalled-arrived : (e : ℕ) (r : Task) → signalled e r .arrived ≡ arrive e (r .arrived)
+pub signalled-arrived : SignalledArrived
 unfolding signalled woken
 signalled-arrived e r = go (isWaiting r && met (r .operator) (r .list) (arrive e (r .arrived))) refl
   where
@@ -67,8 +64,7 @@ signalled-arrived e r = go (isWaiting r && met (r .operator) (r .list) (arrive e
     go true h = rw h
     go false h = rw h
 
--- "a waiting task whose condition is now met becomes ready": none is left waiting with its condition met
-pub woken-unmet : (r : Task) → isWaiting (woken r) ≡ true → met (woken r .operator) (woken r .list) (woken r .arrived) ≡ false
+pub woken-unmet : WokenUnmet
 unfolding woken
 woken-unmet r = go (isWaiting r) (met (r .operator) (r .list) (r .arrived)) refl refl
   where

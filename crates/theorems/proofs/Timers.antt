@@ -33,11 +33,11 @@ pub timers-long : (t : Table) → Parts t → length (t .timers) ≡ timerRoom
 unfolding shaped
 timers-long t p = eqb-true _ _ (given _ (p .shape) .1 .1 .1 .1 .1 .1 .1 .1 .1 .1 .1 .0)
 
-pub timers-shaped : (t : Table) (ticks : ℕ) (timers : List Timer) → length timers ≡ length (t .timers) → shaped (withTimers ticks timers t) ≡ shaped t
+timers-shaped : (t : Table) (ticks : ℕ) (timers : List Timer) → length timers ≡ length (t .timers) → shaped (withTimers ticks timers t) ≡ shaped t
 unfolding shaped
 timers-shaped t ticks timers long = rw long
 
-pub keep-timers : (t : Table) → Parts t → (ticks : ℕ) (timers : List Timer) → length timers ≡ length (t .timers)
+keep-timers : (t : Table) → Parts t → (ticks : ℕ) (timers : List Timer) → length timers ≡ length (t .timers)
     → timersRight (t .tasks) (t .state) ticks timers ≡ true → Parts (settled (withTimers ticks timers t))
 unfolding shaped
 keep-timers t p ticks timers long right =
@@ -75,7 +75,7 @@ module _ (t : Table) (p : Parts t) (a : ℕ) where
 
 -- ---- the timers that are due signal
 
-pub ringing-shaped : (n : ℕ) (rs : List Timer) (t : Table) → shaped (ringing n rs t) ≡ shaped t
+ringing-shaped : (n : ℕ) (rs : List Timer) (t : Table) → shaped (ringing n rs t) ≡ shaped t
 ringing-shaped = ringing-same shaped (λ i f t. shaped-with i (f (taskOf t i)) t)
 
 -- the first of a list of timers, if it is due
@@ -90,7 +90,7 @@ ring-shaped n r t = go (isDue n r)
     go false = refl
 
 -- what a signal keeps of each task
-pub ringing-leaves {ℓ} : {A : Type ℓ} (p : Task → A) → ((e : ℕ) (r : Task) → p (signalled e r) ≡ p r) → (n : ℕ) (rs : List Timer) (t : Table)
+ringing-leaves {ℓ} : {A : Type ℓ} (p : Task → A) → ((e : ℕ) (r : Task) → p (signalled e r) ≡ p r) → (n : ℕ) (rs : List Timer) (t : Table)
     → shaped t ≡ true → (i : ℕ) → p (taskOf (ringing n rs t) i) ≡ p (taskOf t i)
 unfolding ringing
 ringing-leaves p k n [] t shape i = refl

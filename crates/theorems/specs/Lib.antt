@@ -4,3 +4,4 @@ pub mod Listed
 pub mod Happenings
 pub mod Refused
 pub mod Running
+pub mod Tasks

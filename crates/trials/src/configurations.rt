@@ -1,18 +1,17 @@
-// Configurations.
-use super::blocks::Block;
-use super::blocks::block_of;
-use super::blocks::same_blocks;
+// Configurations: their answers, and the tables that they give.
+use super::blocks::same_tables;
+use super::blocks::zeros;
 use super::rows::Row;
-use super::scenes::fresh_block;
 use super::scenes::fresh_one;
+use super::scenes::fresh_table;
 use crate::say;
 use executive::fresh;
-use layout::SIZE;
+use rules::Table;
 ghost use mathlib.Core.Path.{_≡_};
 ghost use lib.ListN.{length};
 
 // The answer of a configuration, and its table.
-fn answered<'a>(r: Row, priorities: &'a [u8], bounds: &'a [u8]) -> Block {
+fn answered<'a>(r: Row, priorities: &'a [u8], bounds: &'a [u8]) -> Table {
     let d = fresh(
         (r.a % 256) as u8,
         (r.b % 256) as u8,
@@ -21,18 +20,18 @@ fn answered<'a>(r: Row, priorities: &'a [u8], bounds: &'a [u8]) -> Block {
         bounds,
     );
     say::answer(d.answer);
-    block_of(d.table)
+    d.table
 }
 
 // A configuration: its answer, and whether its table is that of zeros.
-fn built<'a>(r: Row, priorities: &'a [u8], bounds: &'a [u8]) -> Block {
+fn built<'a>(r: Row, priorities: &'a [u8], bounds: &'a [u8]) -> Table {
     let table = answered(r, priorities, bounds);
-    say::ending(same_blocks(table, [0; SIZE]), b"zeros", b"built");
+    say::ending(same_tables(table, zeros()), b"zeros", b"built");
     table
 }
 
 // With the lists of document 01's examples.
-pub(crate) fn benched(r: Row) -> Block {
+pub(crate) fn benched(r: Row) -> Table {
     built(r, &[5, 5, 2], &[2])
 }
 
@@ -48,7 +47,7 @@ fn bounds_listed(n: u32, last: u8) -> [u8; 256]
 }
 
 // With so many priorities, each 7, and so many bounds, each 2 but for the last of them.
-pub(crate) fn listed(r: Row) -> Block {
+pub(crate) fn listed(r: Row) -> Table {
     let priorities = [7u8; 256];
     let bounds = bounds_listed(r.bounds, (r.last % 256) as u8);
     let p = (r.priorities % 256) as usize;
@@ -58,8 +57,8 @@ pub(crate) fn listed(r: Row) -> Block {
 
 // Entries past a count leave no trace in the table: document 01's configuration, and the same with longer lists.
 pub(crate) fn lengthened() {
-    let longer = fresh_block(3, 2, 1, &[5, 5, 2, 9], &[2, 65]);
-    if same_blocks(fresh_one(), longer) {
+    let longer = fresh_table(3, 2, 1, &[5, 5, 2, 9], &[2, 65]);
+    if same_tables(fresh_one(), longer) {
         say::line(b": the same table");
     } else {
         say::line(b": another table");

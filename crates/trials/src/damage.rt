@@ -1,50 +1,54 @@
-// A table with one number of it changed. A field is given by its place in a block.
-use super::blocks::Block;
-use layout::ARRIVED;
-use layout::ELEMENT;
-use layout::LIST;
-use layout::SIZE;
-use layout::TICKS;
-use layout::TIMER;
-ghost use Prim.Native.Nat.{_≤_};
+// A table with one number of it changed.
+use rules::QUEUES;
+use rules::REGIONS;
+use rules::STORE;
+use rules::TASKS;
+use rules::TIMERS;
+use rules::Table;
+use rules::Timer;
 
-// The place of the elected task.
-pub(crate) const ELECTED: usize = 3;
+// The fields that a scene changes, by the places of their names (see `words`).
+pub(crate) const ELECTED: u32 = 3;
 
-// A timer's date stands behind its three bytes and one that is not used.
-const DATE: usize = TIMER + 4;
+pub(crate) const TICKS: u32 = 15;
 
-// How many bytes a number of the field has.
-fn width(field: usize) -> usize
-    ensures { λ r. ⌜ r ≤ 4 ⌝ }
-{
+// A timer's fields stand behind the others.
+fn spoiled_timer(mut timer: Timer, field: u32, n: u32) -> Timer {
     match field {
-        ARRIVED | LIST => 2,
-        ELEMENT | TICKS | DATE => 4,
-        _ => 1,
+        16 => timer.armed = (n % 256) as u8,
+        17 => timer.owner = (n % 256) as u8,
+        18 => timer.event = (n % 256) as u8,
+        _ => timer.date = n,
     }
-}
-
-// How far an entry is from the first one.
-fn way(field: usize, entry: u32) -> usize
-    ensures { λ r. ⌜ r ≤ 4096 ⌝ }
-{
-    let n = (entry % 512) as usize;
-    match field {
-        ARRIVED | LIST => 2 * n,
-        ELEMENT => 4 * n,
-        TIMER..=DATE => 8 * n,
-        _ => n,
-    }
+    timer
 }
 
 // The table with n in that field, at that entry where the field is an array. A field that is narrower takes the lowest bits.
-pub(crate) fn spoiled(mut table: Block, field: usize, entry: u32, n: u32) -> Block {
-    let at = field % SIZE + way(field, entry);
-    let mut rest = n;
-    for i in at..at + width(field) {
-        table[i % SIZE] = (rest % 256) as u8;
-        rest = rest / 256;
+pub(crate) fn spoiled(mut t: Table, field: u32, entry: u32, n: u32) -> Table {
+    let at = entry as usize;
+    let byte = (n % 256) as u8;
+    let half = (n % 65536) as u16;
+    match field {
+        0 => t.tasks = byte,
+        1 => t.regions = byte,
+        2 => t.queues = byte,
+        ELECTED => t.elected = byte,
+        4 => t.priority[at % TASKS] = byte,
+        5 => t.state[at % TASKS] = byte,
+        6 => t.arrived[at % TASKS] = half,
+        7 => t.list[at % TASKS] = half,
+        8 => t.operator[at % TASKS] = byte,
+        9 => t.holder[at % REGIONS] = byte,
+        10 => t.entries[at % REGIONS] = byte,
+        11 => t.bound[at % QUEUES] = byte,
+        12 => t.length[at % QUEUES] = byte,
+        13 => t.element[at % STORE] = n,
+        14 => t.criterion[at % STORE] = byte,
+        TICKS => t.ticks = n,
+        _ => {
+            let timer = t.timers[at % TIMERS];
+            t.timers[at % TIMERS] = spoiled_timer(timer, field, n);
+        }
     }
-    table
+    t
 }

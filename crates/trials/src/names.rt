@@ -1,22 +1,16 @@
-// Numbers that document 01 gives names to.
-pub(crate) const START: u8 = 0;
+// Operations that only trials have, in the order of their names in `words`: the queries, and the program's own.
+pub(crate) const ARRIVED: u32 = 256;
 
-pub(crate) const END: u8 = 2;
+pub(crate) const EMPTY: u32 = 257;
 
-pub(crate) const SIGNAL: u8 = 3;
+pub(crate) const FULL: u32 = 258;
 
-pub(crate) const WAIT: u8 = 4;
+pub(crate) const PRIORITY: u32 = 259;
 
-pub(crate) const CLEAR: u8 = 5;
+pub(crate) const STATE: u32 = 260;
 
-pub(crate) const ENTER: u8 = 6;
+pub(crate) const CHANGE: u32 = 261;
 
-pub(crate) const SEND: u8 = 8;
+pub(crate) const CONFIGURE: u32 = 262;
 
-pub(crate) const ARM: u8 = 10;
-
-// WAIT's operator.
-pub(crate) const ALL: u32 = 0;
-
-// The caller that is no task.
-pub(crate) const OUTSIDE: u8 = 255;
+pub(crate) const LIST: u32 = 263;

@@ -1,4 +1,8 @@
 // The five queries.
+use super::names::ARRIVED;
+use super::names::EMPTY;
+use super::names::FULL;
+use super::names::PRIORITY;
 use super::rows::Row;
 use executive::arrived;
 use executive::empty;
@@ -11,10 +15,10 @@ use rules::Table;
 pub(crate) fn replied(t: Table, r: Row) -> Answer {
     let query = r.operation;
     match query {
-        256 => arrived(t, (r.caller % 256) as u8, r.a, r.b),
-        257 => empty(t, r.a),
-        258 => full(t, r.a),
-        259 => priority(t, r.a),
+        ARRIVED => arrived(t, (r.caller % 256) as u8, r.a, r.b),
+        EMPTY => empty(t, r.a),
+        FULL => full(t, r.a),
+        PRIORITY => priority(t, r.a),
         _ => state(t, r.a),
     }
 }

@@ -1,28 +1,32 @@
 // Tables that trials start from. Each but `zeros`, `wrong` and `turning` is reached from a fresh one by calls, so that it is valid.
-use super::blocks::Block;
-use super::blocks::block_of;
-use super::blocks::table_in;
+use super::blocks::zeros;
 use super::damage::ELECTED;
+use super::damage::TICKS;
 use super::damage::spoiled;
-use super::names::ALL;
-use super::names::ARM;
-use super::names::END;
-use super::names::ENTER;
-use super::names::OUTSIDE;
-use super::names::SEND;
-use super::names::SIGNAL;
-use super::names::START;
-use super::names::WAIT;
 use executive::call;
 use executive::fresh;
-use layout::SIZE;
-use layout::TICKS;
+use rules::ARM;
 use rules::Call;
+use rules::END;
+use rules::ENTER;
+use rules::OUTSIDE;
+use rules::PLACES;
+use rules::QUEUES;
+use rules::REGIONS;
+use rules::SEND;
+use rules::SIGNAL;
+use rules::START;
+use rules::TASKS;
+use rules::Table;
+use rules::WAIT;
+
+// WAIT's operator.
+const ALL: u32 = 0;
 
 // A call whose answer nobody looks at.
-fn after(t: Block, caller: u8, operation: u8, a: u32, b: u32, c: u32) -> Block {
+fn after(t: Table, caller: u8, operation: u8, a: u32, b: u32, c: u32) -> Table {
     let d = call(
-        table_in(t),
+        t,
         Call {
             caller: caller,
             operation: operation,
@@ -31,36 +35,36 @@ fn after(t: Block, caller: u8, operation: u8, a: u32, b: u32, c: u32) -> Block {
             c: c,
         },
     );
-    block_of(d.table)
+    d.table
 }
 
 // A configuration whose answer nobody looks at.
-pub(crate) fn fresh_block<'a>(
+pub(crate) fn fresh_table<'a>(
     tasks: u8,
     regions: u8,
     queues: u8,
     priorities: &'a [u8],
     bounds: &'a [u8],
-) -> Block {
+) -> Table {
     let d = fresh(tasks, regions, queues, priorities, bounds);
-    block_of(d.table)
+    d.table
 }
 
 // The table of document 01's examples: priorities 5, 5, 2, two regions, one queue of bound 2.
-pub(crate) fn fresh_one() -> Block {
-    fresh_block(3, 2, 1, &[5, 5, 2], &[2])
+pub(crate) fn fresh_one() -> Table {
+    fresh_table(3, 2, 1, &[5, 5, 2], &[2])
 }
 
-fn signalled() -> Block {
+fn signalled() -> Table {
     after(fresh_one(), OUTSIDE, SIGNAL, 4, 0, 0)
 }
 
-fn full() -> Block {
+fn full() -> Table {
     let t = after(fresh_one(), 0, SEND, 0, 11, 3);
     after(t, 0, SEND, 0, 12, 9)
 }
 
-fn busy() -> Block {
+fn busy() -> Table {
     let t = after(fresh_one(), 0, START, 2, 0, 0);
     let t = after(t, 2, WAIT, 3, ALL, 0);
     let t = after(t, OUTSIDE, SIGNAL, 0, 2, 0);
@@ -69,24 +73,28 @@ fn busy() -> Block {
     after(t, 0, SEND, 0, 11, 3)
 }
 
-fn largest() -> Block {
-    let mut priorities = [7u8; 32];
-    priorities[31] = 0;
-    fresh_block(32, 16, 8, &priorities, &[64; 8])
+fn largest() -> Table {
+    let mut priorities = [7u8; TASKS];
+    priorities[TASKS - 1] = 0;
+    fresh_table(
+        TASKS as u8,
+        REGIONS as u8,
+        QUEUES as u8,
+        &priorities,
+        &[PLACES as u8; QUEUES],
+    )
 }
 
-fn filled() -> Block {
+fn filled() -> Table {
     let mut t = largest();
-    for i in 0..64u32 {
-        // A loop can't lay a call's result into an array that is there: it goes by a local of its own.
-        let next = after(t, 0, SEND, 7, 100 + i, 3);
-        t = next;
+    for i in 0..PLACES as u32 {
+        t = after(t, 0, SEND, 7, 100 + i, 3);
     }
     t
 }
 
 // The tables by the places of their names. The last is the table that the line before left.
-pub(crate) fn table_of(scene: u32, before: Block) -> Block {
+pub(crate) fn table_of(scene: u32, before: Table) -> Table {
     match scene {
         // fresh: task 0 is ready and elected.
         0 => fresh_one(),
@@ -112,7 +120,7 @@ pub(crate) fn table_of(scene: u32, before: Block) -> Block {
         // filled: as largest, and queue 7 is at its bound, with elements 100 to 163 of criterion 3.
         10 => filled(),
         // zeros: not valid.
-        11 => [0; SIZE],
+        11 => zeros(),
         // wrong: as busy, but with task 1 as the elected one: not valid.
         12 => spoiled(busy(), ELECTED, 0, 1),
         // turning: as fresh, but with the counter two ticks before it starts again. No log reaches that, so that it is set.

@@ -1,10 +1,10 @@
 // The list of trials, line by line.
-use super::blocks::Block;
+use super::blocks::zeros;
 use super::rows::row_of;
 use super::trial::trial;
 use crate::say;
 use bytes::scan::find;
-use layout::SIZE;
+use rules::Table;
 use tables::byte_at;
 ghost use mathlib.Core.Path.{_≡_};
 ghost use lib.ListN.{length};
@@ -17,14 +17,14 @@ fn write_name(text: &[u8]) {
 }
 
 // A trial: its name, and what comes of it. Returns the table that it leaves.
-fn tried(text: &[u8], t: Block) -> Block {
+fn tried(text: &[u8], t: Table) -> Table {
     let bar = find(text, 0, text.len(), b'|');
     write_name(&text[bar..]);
     trial(row_of(&text[0..bar]), t)
 }
 
 // A line, and the table that it leaves. A heading is written as it is; an empty line and a remark, which starts with `//`, are not.
-fn played(text: &[u8], t: Block) -> Block {
+fn played(text: &[u8], t: Table) -> Table {
     let first = byte_at(text, 0);
     match first {
         // An empty line has no first byte, and gets 0 for it.
@@ -41,12 +41,11 @@ fn played(text: &[u8], t: Block) -> Block {
 pub(crate) fn play(text: &[u8]) -> usize
     ensures { λ r. ⌜ r ≡ length (now (text .entry)) ⌝ }
 {
-    let mut t = [0; SIZE];
+    let mut t = zeros();
     let mut start = 0;
     while start < text.len() {
         let end = find(text, start, text.len(), b'\n');
-        let next = played(&text[start..end], t);
-        t = next;
+        t = played(&text[start..end], t);
         start = end + 1;
     }
     text.len()

@@ -1,16 +1,18 @@
 // One trial: its table, what is tried on it, and the rest of its line.
-use super::blocks::Block;
-use super::blocks::block_of;
-use super::blocks::same_blocks;
-use super::blocks::table_in;
+use super::blocks::same_tables;
 use super::damage::spoiled;
-use super::names::CLEAR;
+use super::names::ARRIVED;
+use super::names::CHANGE;
+use super::names::CONFIGURE;
+use super::names::LIST;
+use super::names::STATE;
 use super::questions::replied;
 use super::rows::Row;
 use super::scenes::table_of;
 use crate::configurations;
 use crate::say;
 use executive::call;
+use rules::CLEAR;
 use rules::Call;
 use rules::Table;
 
@@ -26,29 +28,29 @@ fn call_of(r: Row) -> Call {
 }
 
 // The answer of a call, and the table after it.
-fn answered(t: Table, k: Call) -> Block {
+fn answered(t: Table, k: Call) -> Table {
     let d = call(t, k);
     say::answer(d.answer);
-    block_of(d.table)
+    d.table
 }
 
 // A call: the answer, and whether the table has changed.
-fn called(before: Block, k: Call) -> Block {
-    let after = answered(table_in(before), k);
-    say::ending(same_blocks(before, after), b"untouched", b"changed");
+fn called(before: Table, k: Call) -> Table {
+    let after = answered(before, k);
+    say::ending(same_tables(before, after), b"untouched", b"changed");
     after
 }
 
 // A query: the answer alone.
-fn asked(table: Block, r: Row) {
-    say::answer(replied(table_in(table), r));
+fn asked(table: Table, r: Row) {
+    say::answer(replied(table, r));
     say::word(b"\n");
 }
 
 // A CLEAR of event 0 by task 0, on the table with c in field a at entry b. A change that changes nothing would be no trial.
-fn damaged(table: Block, r: Row) -> Block {
-    let other = spoiled(table, r.a as usize, r.b, r.c);
-    if same_blocks(table, other) {
+fn damaged(table: Table, r: Row) -> Table {
+    let other = spoiled(table, r.a, r.b, r.c);
+    if same_tables(table, other) {
         say::word(b": nothing changed\n");
         return table;
     }
@@ -62,19 +64,19 @@ fn damaged(table: Block, r: Row) -> Block {
     called(other, clear)
 }
 
-// The numbers from 256 on stand for the queries and the program's own operations, in the order of their names in `words`.
-pub(crate) fn trial(r: Row, before: Block) -> Block {
+// What a line asks for: a call, a query, or an operation of the program's own.
+pub(crate) fn trial(r: Row, before: Table) -> Table {
     let table = table_of(r.table, before);
     let operation = r.operation;
     match operation {
         0..=255 => called(table, call_of(r)),
-        256..=260 => {
+        ARRIVED..=STATE => {
             asked(table, r);
             table
         }
-        261 => damaged(table, r),
-        262 => configurations::benched(r),
-        263 => configurations::listed(r),
+        CHANGE => damaged(table, r),
+        CONFIGURE => configurations::benched(r),
+        LIST => configurations::listed(r),
         _ => {
             configurations::lengthened();
             table

@@ -47,16 +47,16 @@ fn looked_up(word: &[u8], names: &[u8]) -> u32 {
     NOTHING
 }
 
-// The names: of tables (see `scenes`), of operations, of the queries and the program's own operations, of a table's fields, by
-// their places in a block (see `damage`), of operators; a number that is not read; and the caller that is no task.
+// The names: of tables (see `scenes`), of operations, of the queries and the program's own operations (see `names`), of a table's
+// fields (see `damage`), of operators; a number that is not read; and the caller that is no task.
 fn name_of(word: &[u8]) -> u32 {
     looked_up(
         word,
         b"0 fresh signalled held full rivals asleep ended busy largest last filled zeros wrong turning armed then \
         0 START STOP END SIGNAL WAIT CLEAR ENTER EXIT SEND RETRIEVE ARM DISARM TICK \
         256 ARRIVED EMPTY FULL PRIORITY STATE Change Configure List Lengthen \
-        0 tasks regions queues elected priority 36 state 68 arrived 132 list 196 operator 228 holder 244 entries \
-        260 bound 268 length 276 element 2324 criterion 2836 ticks 2840 flag owner event 2844 date \
+        0 tasks regions queues elected priority state arrived list operator holder entries bound length element criterion \
+        ticks flag owner event date \
         0 all any \
         0 - \
         255 outside ",

@@ -1,6 +1,6 @@
 -- Another size is refused; else the block is that of the fresh table, or of the table of zeros.
 use borrow.Author.Needs.{needs}
-use Rattle.block.proofs.Made.{fresh-refused, fresh-made}
+use Rattle.block.proofs.FreshBlock.{fresh-refused, fresh-made}
 use Rattle.block.proofs.fresh.tankwesho_fresh.Statement.{statement}
 use Rattle.block.proofs.fresh.tankwesho_fresh.Tie as tie
 
@@ -20,7 +20,10 @@ same-length : tie.Need-same-length
 same-length c = search needs
 
 returns-2 : tie.Need-returns-2
-returns-2 c = fresh-made _ _ _ _ _ _ _ _ _ (c .before .before .before .before .before .before .if1 .left) (c .before .before .before .before .before .fresh .ensures) (c .before .before .before .pack .ensures) (c .answer-number .ensures)
+returns-2 c =
+    let packed = c .before .before .before in
+    let made = packed .before .before in
+    fresh-made _ _ _ _ _ _ _ _ _ (made .before .if1 .left) (made .fresh .ensures) (packed .pack .ensures) (c .answer-number .ensures)
 
 pub tankwesho-fresh-spec : {M : Type 1} → statement M
 tankwesho-fresh-spec =

@@ -1,7 +1,7 @@
 -- Each number's query, which says 10 of a damaged table by itself.
 use borrow.Author.Needs.{needs}
 use native.Mathlib.Omega.{arith}
-use Rattle.block.proofs.Asked.{arrived-is, empty-is, full-is, priority-is, state-is, unknown-is}
+use Rattle.block.proofs.QueryBlock.{arrived-is, empty-is, full-is, priority-is, state-is, unknown-is}
 use Rattle.block.proofs.query.query_of.Statement.{statement}
 use Rattle.block.proofs.query.query_of.Tie as tie
 
@@ -39,7 +39,9 @@ returns-5 : tie.Need-returns-5
 returns-5 c = state-is _ _ _ _ _ _ (c .before .match .keys5) (c .state .ensures)
 
 returns-6 : tie.Need-returns-6
-returns-6 c = unknown-is _ _ _ _ _ _ (omega (arith, c .before .match .rest .0 .0 .0 .0 .1, c .before .match .rest .0 .0 .0 .1, c .before .match .rest .0 .0 .1, c .before .match .rest .0 .1, c .before .match .rest .1)) (c .unknown-query .ensures)
+returns-6 c =
+    let rest = c .before .match .rest in
+    unknown-is _ _ _ _ _ _ (omega (arith, rest .0 .0 .0 .0 .1, rest .0 .0 .0 .1, rest .0 .0 .1, rest .0 .1, rest .1)) (c .unknown-query .ensures)
 
 pub query-of-spec : {M : Type 1} → statement M
 query-of-spec =

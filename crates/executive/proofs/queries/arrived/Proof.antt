@@ -2,11 +2,12 @@
 use borrow.Author.Needs.{needs}
 use mathlib.Core.Path.{_≡_, _∙_}
 use lib.ListN.{length}
-use Rattle.executive.proofs.Replied.{arrived-is}
+use Rattle.rules.specs.Numbers.{taskRoom}
+use Rattle.executive.proofs.TaskQueries.{arrived-is}
 use Rattle.executive.proofs.queries.arrived.Statement.{statement}
 use Rattle.executive.proofs.queries.arrived.Tie as tie
 
-long : (c : tie.Start) → length (c .args .t1 .arrived) ≡ 32
+long : (c : tie.Start) → length (c .args .t1 .arrived) ≡ taskRoom
 long c = search needs
 
 is-valid-requires : tie.Need-is-valid-requires
@@ -34,7 +35,12 @@ reply-of-requires : tie.Need-reply-of-requires
 reply-of-requires c κs = search needs
 
 returns : tie.Need-returns
-returns c = c .reply-of .ensures ∙ arrived-is _ _ _ (c .before .before .before .before .before .before .before .is-valid .ensures) _ _ _ _ _ _ (c .before .before .before .before .before .before .arrived-status .ensures) (c .before .before .before .events-at .ensures) (c .before .before .met-by .ensures) (c .before .one-if .ensures)
+returns c =
+    let events = c .before .before .before in
+    let status = events .before .before .before in
+    c .reply-of .ensures
+    ∙ arrived-is _ _ _ (status .before .is-valid .ensures) _ _ _ _ _ _ (status .arrived-status .ensures) (events .events-at .ensures)
+    (c .before .before .met-by .ensures) (c .before .one-if .ensures)
 
 pub arrived-spec : {M : Type 1} → statement M
 arrived-spec =

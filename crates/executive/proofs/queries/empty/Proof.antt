@@ -1,7 +1,7 @@
 -- Where nothing is refused, the queue's list has the length that is stored.
 use borrow.Author.Needs.{needs}
 use mathlib.Core.Path.{_∙_}
-use Rattle.executive.proofs.Stored.{empty-is}
+use Rattle.executive.proofs.QueueQueries.{empty-is}
 use Rattle.executive.proofs.queries.empty.Statement.{statement}
 use Rattle.executive.proofs.queries.empty.Tie as tie
 
@@ -21,7 +21,11 @@ reply-of-requires : tie.Need-reply-of-requires
 reply-of-requires c κs = search needs
 
 returns : tie.Need-returns
-returns c = c .reply-of .ensures ∙ empty-is _ _ _ (c .before .before .before .before .before .before .before .is-valid .ensures) _ _ _ (c .before .before .before .before .before .before .object-status .ensures) (c .before .before .byte-at .ensures) (c .before .one-if .ensures)
+returns c =
+    let counted = c .before .before in
+    let status = counted .before .before .before .before in
+    c .reply-of .ensures
+    ∙ empty-is _ _ _ (status .before .is-valid .ensures) _ _ _ (status .object-status .ensures) (counted .byte-at .ensures) (c .before .one-if .ensures)
 
 pub empty-spec : {M : Type 1} → statement M
 empty-spec =

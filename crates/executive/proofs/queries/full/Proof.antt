@@ -1,7 +1,7 @@
 -- Where nothing is refused, the queue's list has the length that is stored.
 use borrow.Author.Needs.{needs}
 use mathlib.Core.Path.{_∙_}
-use Rattle.executive.proofs.Stored.{full-is}
+use Rattle.executive.proofs.QueueQueries.{full-is}
 use Rattle.executive.proofs.queries.full.Statement.{statement}
 use Rattle.executive.proofs.queries.full.Tie as tie
 
@@ -24,7 +24,13 @@ reply-of-requires : tie.Need-reply-of-requires
 reply-of-requires c κs = search needs
 
 returns : tie.Need-returns
-returns c = c .reply-of .ensures ∙ full-is _ _ _ (c .before .before .before .before .before .before .before .before .before .before .before .is-valid .ensures) _ _ _ _ (c .before .before .before .before .before .before .before .before .before .before .object-status .ensures) (c .before .before .before .before .before .before .byte-at .ensures) (c .before .before .byte-at2 .ensures) (c .before .one-if .ensures)
+returns c =
+    let counted = c .before .before in
+    let bounded = counted .before .before .before .before in
+    let status = bounded .before .before .before .before in
+    c .reply-of .ensures
+    ∙ full-is _ _ _ (status .before .is-valid .ensures) _ _ _ _ (status .object-status .ensures) (bounded .byte-at .ensures)
+    (counted .byte-at2 .ensures) (c .before .one-if .ensures)
 
 pub full-spec : {M : Type 1} → statement M
 full-spec =

@@ -1,7 +1,7 @@
 -- The value is read as the definition reads it.
 use borrow.Author.Needs.{needs}
 use mathlib.Core.Path.{_∙_}
-use Rattle.executive.proofs.Replied.{priority-is}
+use Rattle.executive.proofs.TaskQueries.{priority-is}
 use Rattle.executive.proofs.queries.priority.Statement.{statement}
 use Rattle.executive.proofs.queries.priority.Tie as tie
 
@@ -21,7 +21,9 @@ reply-of-requires : tie.Need-reply-of-requires
 reply-of-requires c κs = search needs
 
 returns : tie.Need-returns
-returns c = c .reply-of .ensures ∙ priority-is _ _ _ (c .before .before .before .before .before .before .is-valid .ensures) _ _ (c .before .before .before .before .before .object-status .ensures) (c .before .byte-at .ensures)
+returns c =
+    let status = c .before .before .before .before .before in
+    c .reply-of .ensures ∙ priority-is _ _ _ (status .before .is-valid .ensures) _ _ (status .object-status .ensures) (c .before .byte-at .ensures)
 
 pub priority-spec : {M : Type 1} → statement M
 priority-spec =

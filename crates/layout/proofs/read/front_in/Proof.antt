@@ -1,6 +1,7 @@
 -- Each array is filled with its part of the block.
 use borrow.Author.Needs.{needs}
-use Rattle.layout.proofs.Fields.{front-is}
+use lib.ListN.{getD}
+use Rattle.layout.specs.Fronts.{frontTaken}
 use Rattle.layout.proofs.read.front_in.Statement.{statement}
 use Rattle.layout.proofs.read.front_in.Tie as tie
 
@@ -83,7 +84,37 @@ array-read-counter : tie.Need-array-read-counter
 array-read-counter c = search needs
 
 returns : tie.Need-returns
-returns c = front-is ((c .before .before .before .before .before .before .before .before .before .before .before .before .before .before .before .before .before .before .before .before .before .before .before .before .before .before .before .before .before .before .before .before .before .before .before .before) .args .block .now) _ _ _ _ _ _ _ _ _ _ _ _ _ _ _ (c .before .before .before .byte-at .ensures) (c .before .before .byte-at2 .ensures) (c .before .byte-at3 .ensures) (c .byte-at4 .ensures) (c .before .before .before .before .before .before .before .before .before .before .before .before .before .before .before .before .before .before .before .before .before .before .before .before .before .before .before .before .before .before .before .before .before .take-bytes .ensures) (c .before .before .before .before .before .before .before .before .before .before .before .before .before .before .before .before .before .before .before .before .before .before .before .before .before .before .before .before .before .before .take-bytes2 .ensures) (c .before .before .before .before .before .before .before .before .before .before .before .before .before .before .before .before .before .before .before .before .before .before .before .before .before .before .before .take-halves .ensures) (c .before .before .before .before .before .before .before .before .before .before .before .before .before .before .before .before .before .before .before .before .before .before .before .before .take-halves2 .ensures) (c .before .before .before .before .before .before .before .before .before .before .before .before .before .before .before .before .before .before .before .before .before .take-bytes3 .ensures) (c .before .before .before .before .before .before .before .before .before .before .before .before .before .before .before .before .before .before .take-bytes4 .ensures) (c .before .before .before .before .before .before .before .before .before .before .before .before .before .before .before .take-bytes5 .ensures) (c .before .before .before .before .before .before .before .before .before .before .before .before .take-bytes6 .ensures) (c .before .before .before .before .before .before .before .before .before .take-bytes7 .ensures) (c .before .before .before .before .before .before .take-words .ensures) (c .before .before .before .before .timers-at .ensures)
+unfolding frontTaken
+returns c =
+    let timers = c .before .before .before .before in
+    let ticks = timers .before .before in
+    let length = ticks .before .before .before in
+    let bound = length .before .before .before in
+    let entries = bound .before .before .before in
+    let holder = entries .before .before .before in
+    let operator = holder .before .before .before in
+    let list = operator .before .before .before in
+    let arrived = list .before .before .before in
+    let state = arrived .before .before .before in
+    let priority = state .before .before .before in
+    λ x.
+    record {
+      tasks = c .before .before .before .byte-at .ensures x;
+      regions = c .before .before .byte-at2 .ensures x;
+      queues = c .before .byte-at3 .ensures x;
+      elected = c .byte-at4 .ensures x;
+      priority = priority .take-bytes .ensures x;
+      state = state .take-bytes2 .ensures x;
+      arrived = arrived .take-halves .ensures x;
+      list = list .take-halves2 .ensures x;
+      operator = operator .take-bytes3 .ensures x;
+      holder = holder .take-bytes4 .ensures x;
+      entries = entries .take-bytes5 .ensures x;
+      bound = bound .take-bytes6 .ensures x;
+      length = length .take-bytes7 .ensures x;
+      ticks = getD (ticks .take-words .ensures x) 0 0;
+      timers = timers .timers-at .ensures x;
+    }
 
 pub front-in-spec : {M : Type 1} → statement M
 front-in-spec =

@@ -1,6 +1,5 @@
 -- The parts before and behind the store.
 use borrow.Author.Needs.{needs}
-use mathlib.Core.Path.{refl}
 use Rattle.layout.specs.Wholes.{frontPacked}
 use Rattle.layout.proofs.write.pack_front.Statement.{statement}
 use Rattle.layout.proofs.write.pack_front.Tie as tie
@@ -16,7 +15,7 @@ same-length c = search needs
 
 returns : tie.Need-returns
 unfolding frontPacked
-returns c = rw (c .before .before .put-tail .ensures, c .before .before .before .before .before .before .put-head .ensures) refl
+returns c = cc
 
 pub pack-front-spec : {M : Type 1} → statement M
 pack-front-spec = tie.close (tie.spec put-head-requires put-tail-requires same-length returns)

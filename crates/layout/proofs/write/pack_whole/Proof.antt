@@ -1,9 +1,6 @@
 -- One part over the block after the other.
 use borrow.Author.Needs.{needs}
-use mathlib.Core.Path.{ap, _∙_}
-use Rattle.packing.specs.Bytes.{put}
-use Rattle.layout.specs.Layout.{elementPlace, criterionPlace}
-use Rattle.layout.specs.Wholes.{tailPut, wholePut}
+use Rattle.layout.specs.Wholes.{wholePut}
 use Rattle.layout.proofs.write.pack_whole.Statement.{statement}
 use Rattle.layout.proofs.write.pack_whole.Tie as tie
 
@@ -24,7 +21,7 @@ same-length c = search needs
 
 returns : tie.Need-returns
 unfolding wholePut
-returns c = c .before .before .put-tail .ensures ∙ ap (tailPut _ _) (c .before .before .before .before .before .before .before .put-bytes .ensures ∙ ap (put 1 criterionPlace _) (c .before .before .before .before .before .before .before .before .before .before .before .put-words .ensures ∙ ap (put 4 elementPlace _) (c .before .before .before .before .before .before .before .before .before .before .before .before .before .before .before .put-head .ensures)))
+returns c = cc
 
 pub pack-whole-spec : {M : Type 1} → statement M
 pack-whole-spec =

@@ -22,7 +22,7 @@ put-bytes-requires-3 : tie.Need-put-bytes-requires-3
 put-bytes-requires-3 c κs = search needs
 
 returns : tie.Need-returns
-returns c = rw (c .before .before .put-bytes3 .ensures, c .before .before .before .before .before .before .put-halves2 .ensures, c .before .before .before .before .before .before .before .before .before .before .put-halves .ensures, c .before .before .before .before .before .before .before .before .before .before .before .before .before .before .put-bytes2 .ensures, c .before .before .before .before .before .before .before .before .before .before .before .before .before .before .before .before .before .before .put-bytes .ensures)
+returns c = cc
 
 same-length : tie.Need-same-length
 same-length c = ap length (returns c) ∙ simp put-length

@@ -22,7 +22,11 @@ same-length c = search needs
 
 returns : tie.Need-returns
 unfolding headPut
-returns c = rw (c .before .before .put-heads .ensures, c .before .before .before .before .before .before .before .before .before .before .before .before .before .before .before .put-columns .ensures, c .before .before .before .before .before .before .before .before .before .before .before .before .before .before .before .before .before .before .before .before .before .before .before .before .before .before .before .before .before .before .put-bytes .ensures) refl
+returns c =
+    let heads = c .before .before in
+    let columns = heads .before .before .before .before .before .before .before .before .before .before .before .before .before in
+    let counts = columns .before .before .before .before .before .before .before .before .before .before .before .before .before .before .before in
+    rw (heads .put-heads .ensures, columns .put-columns .ensures, counts .put-bytes .ensures) refl
 
 pub put-head-spec : {M : Type 1} → statement M
 put-head-spec =

@@ -1,6 +1,5 @@
 -- One part over the block after the other.
 use borrow.Author.Needs.{needs}
-use mathlib.Core.Path.{refl}
 use Rattle.layout.proofs.write.put_heads.Statement.{statement}
 use Rattle.layout.proofs.write.put_heads.Tie as tie
 
@@ -20,7 +19,7 @@ same-length : tie.Need-same-length
 same-length c = search needs
 
 returns : tie.Need-returns
-returns c = rw (c .before .before .put-bytes4 .ensures, c .before .before .before .before .before .before .put-bytes3 .ensures, c .before .before .before .before .before .before .before .before .before .before .put-bytes2 .ensures, c .before .before .before .before .before .before .before .before .before .before .before .before .before .before .put-bytes .ensures) refl
+returns c = cc
 
 pub put-heads-spec : {M : Type 1} → statement M
 put-heads-spec =

@@ -1,8 +1,5 @@
 -- One part over the block after the other.
 use borrow.Author.Needs.{needs}
-use mathlib.Core.Path.{ap, _∙_}
-use Rattle.packing.specs.Timers.{timersPut}
-use Rattle.layout.specs.Layout.{timersPlace}
 use Rattle.layout.specs.Wholes.{tailPut}
 use Rattle.layout.proofs.write.put_tail.Statement.{statement}
 use Rattle.layout.proofs.write.put_tail.Tie as tie
@@ -21,7 +18,7 @@ same-length c = search needs
 
 returns : tie.Need-returns
 unfolding tailPut
-returns c = c .before .before .put-timers .ensures ∙ ap (timersPut timersPlace _) (c .before .before .before .before .before .before .put-words .ensures)
+returns c = cc
 
 pub put-tail-spec : {M : Type 1} → statement M
 put-tail-spec =

@@ -4,7 +4,7 @@ use native.Mathlib.Omega.{arith}
 use Prim.Native.Nat.{_-_}
 use mathlib.Core.Path.{refl, sym, _∙_}
 use borrow.Author.Tests.{not-true, not-false}
-use Rattle.packing.proofs.Turns.{TakingNumbers, numbers-start, byte-more, numbers-end, numbers-none}
+use Rattle.packing.proofs.Loops.{TakingNumbers, numbers-start, byte-more, numbers-end, numbers-none}
 use Rattle.packing.proofs.read.take_bytes.Statement.{statement}
 use Rattle.packing.proofs.read.take_bytes.Tie as tie
 

@@ -4,12 +4,13 @@ use native.Mathlib.Omega.{arith}
 use Prim.Native.Nat.{_-_, _*_}
 use mathlib.Core.Path.{refl, sym, _∙_}
 use borrow.Author.Tests.{not-true, not-false}
-use Rattle.packing.proofs.Turns.{TakingNumbers, numbers-start, numbers-more, numbers-end, numbers-none}
+use Rattle.packing.specs.Bytes.{halfWidth}
+use Rattle.packing.proofs.Loops.{TakingNumbers, numbers-start, numbers-more, numbers-end, numbers-none}
 use Rattle.packing.proofs.read.take_halves.Statement.{statement}
 use Rattle.packing.proofs.read.take_halves.Tie as tie
 
 abbrev Inv-loop : tie.InvT-loop
-Inv-loop block at into₀ n i₀ into i = TakingNumbers 2 at block into₀ n i into
+Inv-loop block at into₀ n i₀ into i = TakingNumbers halfWidth at block into₀ n i into
 
 abbrev μ-loop : tie.MeasureT-loop
 μ-loop block at into₀ n i₀ into i = n - i
@@ -18,10 +19,10 @@ has-room-requires : tie.Need-has-room-requires Inv-loop μ-loop
 has-room-requires c κs = search needs
 
 returns : tie.Need-returns Inv-loop μ-loop
-returns c = numbers-none 2 _ _ _ _ (sym (c .before .has-room .ensures) ∙ not-true _ (c .if1 .taken)) refl
+returns c = numbers-none halfWidth _ _ _ _ (sym (c .before .has-room .ensures) ∙ not-true _ (c .if1 .taken)) refl
 
 loop-holds : tie.Need-loop-holds Inv-loop μ-loop
-loop-holds c = numbers-start 2 _ _ _ _ (sym (c .before .has-room .ensures) ∙ not-false _ (c .if1 .left)) refl
+loop-holds c = numbers-start halfWidth _ _ _ _ (sym (c .before .has-room .ensures) ∙ not-false _ (c .if1 .left)) refl
 
 mul-from : tie.Need-mul-from Inv-loop μ-loop
 mul-from c = search needs
@@ -57,13 +58,15 @@ loop-less : tie.Need-loop-less Inv-loop μ-loop
 loop-less c = search needs
 
 loop-again : tie.Need-loop-again Inv-loop μ-loop
-loop-again c = numbers-more 2 _ _ _ _ _ (2 * c .before .before .before .loop .i) _ _ (c .before .before .before .loop .inv) (search needs) (omega arith) (c .half-in .ensures)
+loop-again c =
+    let here = c .before .before .before in
+    numbers-more halfWidth _ _ _ _ _ (halfWidth * here .loop .i) _ _ (here .loop .inv) (search needs) (omega arith) (c .half-in .ensures)
 
 same-length : tie.Need-same-length Inv-loop μ-loop
 same-length c = omega arith
 
 returns-2 : tie.Need-returns-2 Inv-loop μ-loop
-returns-2 c = numbers-end 2 _ _ _ _ _ _ (c .before .loop .inv) (search needs)
+returns-2 c = numbers-end halfWidth _ _ _ _ _ _ (c .before .loop .inv) (search needs)
 
 pub take-halves-spec : {M : Type 1} → statement M
 take-halves-spec =

@@ -3,8 +3,9 @@ use borrow.Author.Needs.{needs}
 use native.Mathlib.Omega.{arith}
 use Prim.Native.Nat.{_-_, _*_}
 use mathlib.Core.Path.{refl, sym, _∙_}
-use Rattle.packing.specs.Timers.{timersTaken}
-use Rattle.packing.proofs.Turns.{TakingTimers, timers-start, timers-more, timers-end}
+use Rattle.rules.specs.Numbers.{timerRoom}
+use Rattle.packing.specs.Timers.{timerWidth, timersTaken}
+use Rattle.packing.proofs.Loops.{TakingTimers, timers-start, timers-more, timers-end}
 use Rattle.packing.proofs.read.timers_at.Statement.{statement}
 use Rattle.packing.proofs.read.timers_at.Tie as tie
 
@@ -12,7 +13,7 @@ abbrev Inv-loop : tie.InvT-loop
 Inv-loop block at out₀ i₀ out i = TakingTimers at block out₀ i out
 
 abbrev μ-loop : tie.MeasureT-loop
-μ-loop block at out₀ i₀ out i = 16 - i
+μ-loop block at out₀ i₀ out i = timerRoom - i
 
 has-room-requires : tie.Need-has-room-requires Inv-loop μ-loop
 has-room-requires c κs = search needs
@@ -54,7 +55,9 @@ loop-less : tie.Need-loop-less Inv-loop μ-loop
 loop-less c = search needs
 
 loop-again : tie.Need-loop-again Inv-loop μ-loop
-loop-again c = timers-more _ _ _ _ (8 * c .before .before .before .loop .i) _ _ (c .before .before .before .loop .inv) (search needs) (omega arith) (c .timer-in .ensures)
+loop-again c =
+    let here = c .before .before .before in
+    timers-more _ _ _ _ (timerWidth * here .loop .i) _ _ (here .loop .inv) (search needs) (omega arith) (c .timer-in .ensures)
 
 returns : tie.Need-returns Inv-loop μ-loop
 returns c = timers-end _ _ _ _ _ (c .before .loop .inv) (search needs)

@@ -1,7 +1,7 @@
 -- A quotient that is large enough is room enough.
 use borrow.Author.Needs.{needs}
 use native.Mathlib.Omega.{arith}
-use Rattle.packing.proofs.Single.{room-is, no-room, room-of-none}
+use Rattle.packing.proofs.OneNumber.{room-is, no-room, room-of-none}
 use Rattle.packing.proofs.room.has_room.Statement.{statement}
 use Rattle.packing.proofs.room.has_room.Tie as tie
 

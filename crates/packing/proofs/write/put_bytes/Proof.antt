@@ -4,7 +4,7 @@ use native.Mathlib.Omega.{arith}
 use Prim.Native.Nat.{_-_}
 use mathlib.Core.Path.{refl, sym, _∙_}
 use borrow.Author.Tests.{not-true, not-false}
-use Rattle.packing.proofs.Turns.{PuttingNumbers, spread-start, byte-put, spread-end, spread-none}
+use Rattle.packing.proofs.Loops.{PuttingNumbers, spread-start, byte-put, spread-end, spread-none}
 use Rattle.packing.proofs.write.put_bytes.Statement.{statement}
 use Rattle.packing.proofs.write.put_bytes.Tie as tie
 

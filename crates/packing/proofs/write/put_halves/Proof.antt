@@ -4,12 +4,13 @@ use native.Mathlib.Omega.{arith}
 use Prim.Native.Nat.{_-_, _*_}
 use mathlib.Core.Path.{refl, sym, _∙_}
 use borrow.Author.Tests.{not-true, not-false}
-use Rattle.packing.proofs.Turns.{PuttingNumbers, spread-start, spread-more, spread-end, spread-none}
+use Rattle.packing.specs.Bytes.{halfWidth}
+use Rattle.packing.proofs.Loops.{PuttingNumbers, spread-start, spread-more, spread-end, spread-none}
 use Rattle.packing.proofs.write.put_halves.Statement.{statement}
 use Rattle.packing.proofs.write.put_halves.Tie as tie
 
 abbrev Inv-loop : tie.InvT-loop
-Inv-loop block₀ at from n i₀ block i = PuttingNumbers 2 at from block₀ n i block
+Inv-loop block₀ at from n i₀ block i = PuttingNumbers halfWidth at from block₀ n i block
 
 abbrev μ-loop : tie.MeasureT-loop
 μ-loop block₀ at from n i₀ block i = n - i
@@ -18,10 +19,10 @@ has-room-requires : tie.Need-has-room-requires Inv-loop μ-loop
 has-room-requires c κs = search needs
 
 returns : tie.Need-returns Inv-loop μ-loop
-returns c = spread-none 2 _ _ _ _ (sym (c .before .has-room .ensures) ∙ not-true _ (c .if1 .taken)) refl
+returns c = spread-none halfWidth _ _ _ _ (sym (c .before .has-room .ensures) ∙ not-true _ (c .if1 .taken)) refl
 
 loop-holds : tie.Need-loop-holds Inv-loop μ-loop
-loop-holds c = spread-start 2 _ _ _ _ (sym (c .before .has-room .ensures) ∙ not-false _ (c .if1 .left))
+loop-holds c = spread-start halfWidth _ _ _ _ (sym (c .before .has-room .ensures) ∙ not-false _ (c .if1 .left))
 
 mul-start : tie.Need-mul-start Inv-loop μ-loop
 mul-start c = search needs
@@ -57,13 +58,16 @@ loop-less : tie.Need-loop-less Inv-loop μ-loop
 loop-less c = search needs
 
 loop-again : tie.Need-loop-again Inv-loop μ-loop
-loop-again c = spread-more 2 _ _ _ _ _ (2 * c .before .before .before .before .before .before .loop .i) _ _ (c .before .before .before .before .before .before .loop .inv) refl (search needs) (omega arith) (c .before .before .put-half .ensures)
+loop-again c =
+    let put = c .before .before in
+    let here = put .before .before .before .before in
+    spread-more halfWidth _ _ _ _ _ (halfWidth * here .loop .i) _ _ (here .loop .inv) refl (search needs) (omega arith) (put .put-half .ensures)
 
 same-length : tie.Need-same-length Inv-loop μ-loop
 same-length c = omega arith
 
 returns-2 : tie.Need-returns-2 Inv-loop μ-loop
-returns-2 c = spread-end 2 _ _ _ _ _ _ (c .before .loop .inv) refl (search needs)
+returns-2 c = spread-end halfWidth _ _ _ _ _ _ (c .before .loop .inv) refl (search needs)
 
 pub put-halves-spec : {M : Type 1} → statement M
 put-halves-spec =

@@ -4,7 +4,7 @@ use native.Mathlib.Omega.{arith}
 use mathlib.Core.Path.{ap, _∙_}
 use lib.ListN.{length, length-set}
 use Rattle.packing.proofs.RoundTrips.{timer-length}
-use Rattle.packing.proofs.Single.{timer-stored}
+use Rattle.packing.proofs.OneNumber.{timer-stored}
 use Rattle.packing.proofs.write.put_timer.Statement.{statement}
 use Rattle.packing.proofs.write.put_timer.Tie as tie
 
@@ -33,7 +33,9 @@ put-word-requires : tie.Need-put-word-requires
 put-word-requires c κs = search needs
 
 returns : tie.Need-returns
-returns c = timer-stored _ ((c .before .before .before .before) .before .args .p .now) _ ((c .before .before .before .before) .before .pre) (omega arith) (omega arith) (omega arith) (c .before .before .put-word .ensures)
+returns c =
+    let start = c .before .before .before .before .before in
+    timer-stored _ (start .args .p .now) _ (start .pre) (omega arith) (omega arith) (omega arith) (c .before .before .put-word .ensures)
 
 same-length : tie.Need-same-length
 same-length c = ap length (returns c) ∙ timer-length _ ∙ omega arith

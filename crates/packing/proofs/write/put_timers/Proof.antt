@@ -4,8 +4,9 @@ use native.Mathlib.Omega.{arith}
 use Prim.Native.Nat.{_-_, _*_}
 use mathlib.Core.Path.{sym, _∙_}
 use borrow.Author.Tests.{not-true, not-false}
-use Rattle.packing.specs.Timers.{timersPut}
-use Rattle.packing.proofs.Turns.{PuttingTimers, timers-put-start, timers-put-more, timers-put-end}
+use Rattle.rules.specs.Numbers.{timerRoom}
+use Rattle.packing.specs.Timers.{timerWidth, timersPut}
+use Rattle.packing.proofs.Loops.{PuttingTimers, timers-put-start, timers-put-more, timers-put-end}
 use Rattle.packing.proofs.write.put_timers.Statement.{statement}
 use Rattle.packing.proofs.write.put_timers.Tie as tie
 
@@ -13,7 +14,7 @@ abbrev Inv-loop : tie.InvT-loop
 Inv-loop block₀ at timers i₀ block i = PuttingTimers at timers block₀ i block
 
 abbrev μ-loop : tie.MeasureT-loop
-μ-loop block₀ at timers i₀ block i = 16 - i
+μ-loop block₀ at timers i₀ block i = timerRoom - i
 
 has-room-requires : tie.Need-has-room-requires Inv-loop μ-loop
 has-room-requires c κs = search needs
@@ -59,7 +60,10 @@ loop-less : tie.Need-loop-less Inv-loop μ-loop
 loop-less c = search needs
 
 loop-again : tie.Need-loop-again Inv-loop μ-loop
-loop-again c = timers-put-more _ _ _ _ (8 * c .before .before .before .before .before .before .loop .i) _ _ _ (c .before .before .before .before .before .before .loop .inv) (search needs) (search needs) (omega arith) (c .before .before .put-timer .ensures)
+loop-again c =
+    let put = c .before .before in
+    let here = put .before .before .before .before in
+    timers-put-more _ _ _ _ (timerWidth * here .loop .i) _ _ _ (here .loop .inv) (search needs) (search needs) (omega arith) (put .put-timer .ensures)
 
 same-length : tie.Need-same-length Inv-loop μ-loop
 same-length c = omega arith

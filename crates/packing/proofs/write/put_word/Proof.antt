@@ -1,7 +1,7 @@
 -- The stores, one behind the other, are the bytes of the number.
 use borrow.Author.Needs.{needs}
 use Rattle.packing.specs.Bytes.{bytes}
-use Rattle.packing.proofs.Single.{stored}
+use Rattle.packing.proofs.OneNumber.{stored}
 use Rattle.packing.proofs.write.put_word.Statement.{statement}
 use Rattle.packing.proofs.write.put_word.Tie as tie
 

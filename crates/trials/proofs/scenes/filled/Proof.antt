@@ -1,4 +1,4 @@
--- Safety alone: the element sent in a turn is below 164.
+-- Safety alone: each element sent is below 164.
 use borrow.Author.Needs.{needs}
 use Prim.Native.Nat.{_-_}
 use Rattle.trials.proofs.scenes.filled.Statement.{statement}

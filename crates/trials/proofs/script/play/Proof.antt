@@ -11,6 +11,9 @@ Inv-loop text t₀ start₀ t start = Unit
 abbrev μ-loop : tie.MeasureT-loop
 μ-loop text t₀ start₀ t start = length text - start
 
+zeros-requires : tie.Need-zeros-requires Inv-loop μ-loop
+zeros-requires c κs = search needs
+
 loop-holds : tie.Need-loop-holds Inv-loop μ-loop
 loop-holds c = search needs
 
@@ -47,6 +50,7 @@ play-spec =
     (tie.spec
     Inv-loop
     μ-loop
+    zeros-requires
     loop-holds
     find-requires
     sub-played

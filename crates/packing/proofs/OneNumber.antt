@@ -13,7 +13,7 @@ use borrow.Author.Tests.{leb-true, le-leb, lt-leb}
 use borrow.Rule.Slice.PartMut.{putMid}
 use Rattle.rules.specs.declared.Timer.{Timer}
 use Rattle.rules.proofs.Bools.{same-test}
-use Rattle.packing.specs.Bytes.{number, bytes, hasRoom}
+use Rattle.packing.specs.Bytes.{wordWidth, number, bytes, hasRoom}
 use Rattle.packing.specs.Timers.{timerWidth, timerIn, timerBytes}
 
 -- ---- room
@@ -49,10 +49,6 @@ stored vs bs h =
     let past : length bs ≤ 0 + length vs = omega arith in
     sets-eq vs bs 0 (omega arith) ∙ rw (drop-of-length-le bs past) (append-nil vs)
 
-pub one-byte : (n : ℕ) → n < 256 → n ∷ [] ≡ bytes 1 n
-unfolding bytes
-one-byte n h = rw (mod-eq-of-lt h)
-
 -- ---- a timer
 
 -- a timer is read from its own bytes alone
@@ -73,7 +69,7 @@ module _ (r : Timer) (p date : List ℕ) where
   abbrev head : List ℕ
   head = r .armed ∷ r .owner ∷ r .event ∷ 0 ∷ []
 
-  pub timer-stored : length p ≡ timerWidth → r .armed < 256 → r .owner < 256 → r .event < 256 → date ≡ bytes 4 (r .date)
+  pub timer-stored : length p ≡ timerWidth → r .armed < 256 → r .owner < 256 → r .event < 256 → date ≡ bytes wordWidth (r .date)
       → putMid 4 4 (sets p 0 head) date ≡ timerBytes r
   unfolding timerBytes bytes
   timer-stored h a o e d =

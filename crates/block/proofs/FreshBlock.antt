@@ -8,14 +8,14 @@ use Rattle.rules.specs.declared.Done.{Done}
 use Rattle.rules.specs.Fresh.{fresh}
 use Rattle.packing.specs.Answers.{answerNumber}
 use Rattle.layout.specs.Layout.{blockSize, packed}
-use Rattle.layout.specs.Calls.{Stored, freshBlock}
+use Rattle.layout.specs.Calls.{Stored, notATableNumber, freshBlock}
 use Rattle.layout.proofs.Tables.{ten-is}
 
 module _ (block : List ℕ) (tasks regions queues : ℕ) (priorities bounds : List ℕ) where
   abbrev made : Stored
   made = freshBlock block tasks regions queues priorities bounds
 
-  pub fresh-refused : (length block ≡ blockSize → ⊥) → (65290 ≡ made .answer) × (block ≡ made .block)
+  pub fresh-refused : (length block ≡ blockSize → ⊥) → (notATableNumber ≡ made .answer) × (block ≡ made .block)
   unfolding freshBlock
   fresh-refused n = rw (ne-eqb (length block) blockSize n) (ten-is, refl)
 

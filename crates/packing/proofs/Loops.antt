@@ -1,4 +1,4 @@
--- Loops that read out of a block or write into it, a number or a timer a turn: what has been read or written, said once for them all.
+-- Loops that read out of a block or write into it, number by number or timer by timer: what has been read or written, said once for them all.
 use Prim.Native.Nat.{ℕ, zero, suc, _+_, _*_, _-_, _<_, _≤_}
 use mathlib.Core.Path.{_≡_, refl, sym, ap, _∙_}
 use mathlib.Core.Bool.{true, false}
@@ -15,9 +15,9 @@ use Rattle.rules.specs.Numbers.{timerRoom}
 use Rattle.packing.specs.Bytes.{number, bytes, numbers, spread, over, hasRoom, taken, put}
 use Rattle.packing.specs.Timers.{timerWidth, timerIn, timerBytes, timersIn, timersBytes, timersTaken, timersPut}
 use Rattle.packing.proofs.RoundTrips.{bytes-length, timer-length}
-use Rattle.packing.proofs.Single.{timer-own}
+use Rattle.packing.proofs.OneNumber.{timer-own}
 
--- the part of a block that a turn looks at
+-- the part of a block that is looked at next
 part-here : (width at i o : ℕ) (block : List ℕ) → o ≡ width * i
     → take (at + o + width - (at + o)) (drop (at + o) block) ≡ take width (drop (width * i) (drop at block))
 part-here width at i o block e = let n : at + o + width - (at + o) ≡ width = omega arith in rw (n, e, drop-drop)
@@ -33,7 +33,7 @@ pub record Taking {A : Type 0} (reads : ℕ → List A) (width at size n : ℕ) 
   pub whole : into ≡ reads i ++ drop i old
 
 module _ {A : Type 0} (reads : ℕ → List A) (width at size n : ℕ) (old : List A) where
-  pub take-start : hasRoom size at width n ≡ true → length old ≡ n → reads 0 ≡ [] → Taking reads width at size n old 0 old
+  take-start : hasRoom size at width n ≡ true → length old ≡ n → reads 0 ≡ [] → Taking reads width at size n old 0 old
   take-start h l z =
       record {
         within = omega arith;
@@ -44,7 +44,7 @@ module _ {A : Type 0} (reads : ℕ → List A) (width at size n : ℕ) (old : Li
         whole = rw z;
       }
 
-  pub take-more : (i : ℕ) (into : List A) (x : A) → Taking reads width at size n old i into → i < n → reads (suc i) ≡ reads i ++ (x ∷ [])
+  take-more : (i : ℕ) (into : List A) (x : A) → Taking reads width at size n old i into → i < n → reads (suc i) ≡ reads i ++ (x ∷ [])
       → Taking reads width at size n old (i + 1) (set into i x)
   take-more i into x s h e =
       let here : i < length old = rw (s .old-long) h in
@@ -59,7 +59,7 @@ module _ {A : Type 0} (reads : ℕ → List A) (width at size n : ℕ) (old : Li
             (set-at (reads i) (getD old i x) (drop (suc i) old) x i (s .read) ∙ sym (append-assoc (reads i) (x ∷ []) (drop (suc i) old)));
       }
 
-  pub take-end : (i : ℕ) (into : List A) → Taking reads width at size n old i into → n ≤ i → into ≡ reads n
+  take-end : (i : ℕ) (into : List A) → Taking reads width at size n old i into → n ≤ i → into ≡ reads n
   take-end i into s h =
       let same : i ≡ n = omega (arith, s .within) in
       let none : length old ≤ n = omega (arith, s .old-long) in
@@ -145,7 +145,7 @@ pub record Putting (writes : ℕ → List ℕ) (width at n : ℕ) (old : List �
   pub whole : block ≡ over at (writes i) old
 
 module _ (writes : ℕ → List ℕ) (width at n : ℕ) (old : List ℕ) where
-  pub put-start : hasRoom (length old) at width n ≡ true → writes 0 ≡ [] → Putting writes width at n old 0 old
+  put-start : hasRoom (length old) at width n ≡ true → writes 0 ≡ [] → Putting writes width at n old 0 old
   unfolding over
   put-start h z =
       let none : at + 0 ≡ at = omega arith in
@@ -183,7 +183,7 @@ module _ (writes : ℕ → List ℕ) (width at n : ℕ) (old : List ℕ) where
       (sym (append-assoc (take at old ++ bs) part (drop (at + length (bs ++ part)) old))
       ∙ ap (λ l. l ++ drop (at + length (bs ++ part)) old) (append-assoc (take at old) bs part))
 
-  pub put-more : (i o : ℕ) (block part : List ℕ) → Putting writes width at n old i block → i < n → o ≡ width * i → length part ≡ width
+  put-more : (i o : ℕ) (block part : List ℕ) → Putting writes width at n old i block → i < n → o ≡ width * i → length part ≡ width
       → writes (suc i) ≡ writes i ++ part → Putting writes width at n old (i + 1) (putMid (at + o) (at + o + width - (at + o)) block part)
   put-more i o block part s h e l w =
       let room = s .room in
@@ -201,7 +201,7 @@ module _ (writes : ℕ → List ℕ) (width at n : ℕ) (old : List ℕ) where
         whole = rw add-one whole;
       }
 
-  pub put-end : (i : ℕ) (block : List ℕ) → Putting writes width at n old i block → n ≤ i → block ≡ over at (writes n) old
+  put-end : (i : ℕ) (block : List ℕ) → Putting writes width at n old i block → n ≤ i → block ≡ over at (writes n) old
   put-end i block s h = let same : i ≡ n = omega (arith, s .within) in rw (← same) (s .whole)
 
 -- numbers

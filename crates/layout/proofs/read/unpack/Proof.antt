@@ -3,10 +3,11 @@ use borrow.Author.Needs.{needs}
 use Prim.Native.Nat.{ℕ}
 use mathlib.Core.Path.{_≡_, _∙_}
 use lib.ListN.{length, length-replicate}
+use Rattle.rules.specs.Numbers.{storeSize}
 use Rattle.layout.specs.Layout.{blockSize}
 use Rattle.layout.proofs.Reading.{parts-read}
-use Rattle.block.proofs.query.unpack.Statement.{statement}
-use Rattle.block.proofs.query.unpack.Tie as tie
+use Rattle.layout.proofs.read.unpack.Statement.{statement}
+use Rattle.layout.proofs.read.unpack.Tie as tie
 
 size : (c : tie.Start) → length (c .args .block .now) ≡ blockSize
 size c = search needs
@@ -27,7 +28,13 @@ table-of-requires : tie.Need-table-of-requires
 table-of-requires c κs = search needs
 
 returns : tie.Need-returns
-returns c = c .table-of .ensures ∙ (parts-read ((c .before .before .before .before .before .before .before .before) .args .block .now) (size (c .before .before .before .before .before .before .before .before)) _ (c .before .front-in .ensures) _ _ (length-replicate {A = ℕ} 512 0) (c .before .before .before .before .store-in .ensures .0) _ _ (length-replicate {A = ℕ} 512 0) (c .before .before .before .before .store-in .ensures .1))
+returns c =
+    let stored = c .before .before .before .before in
+    let start = stored .before .before .before .before in
+    let zeros = length-replicate {A = ℕ} storeSize 0 in
+    c .table-of .ensures
+    ∙ parts-read (start .args .block .now) (size start) _ (c .before .front-in .ensures) _ _ zeros (stored .store-in .ensures .0)
+    _ _ zeros (stored .store-in .ensures .1)
 
 pub unpack-spec : {M : Type 1} → statement M
 unpack-spec =

@@ -4,11 +4,11 @@ use mathlib.Core.Path.{_≡_, refl, sym, ap, subst, _∙_}
 use lib.ListN.{length}
 use Rattle.tables.specs.declared.front.Front.{Front}
 use Rattle.tables.specs.Fronts.{whole, frontOf}
 use Rattle.layout.specs.Layout.{blockSize, packed}
 use Rattle.layout.proofs.Sizes.{Sized, length-mapped}
 use Rattle.layout.proofs.Writing.{whole-put}
-use Rattle.block.proofs.fresh.pack.Statement.{statement}
-use Rattle.block.proofs.fresh.pack.Tie as tie
+use Rattle.layout.proofs.write.pack.Statement.{statement}
+use Rattle.layout.proofs.write.pack.Tie as tie
 
 size : (c : tie.Start) → length (c .args .block .now) ≡ blockSize
 size c = search needs
@@ -35,7 +35,12 @@ same-length : tie.Need-same-length
 same-length c = search needs
 
 returns : tie.Need-returns
-returns c = let same = whole-is (c .before .before .before .before .before .before .before .before .before .before) _ (c .before .before .before .before .before .before .front-of .ensures) in c .before .before .pack-whole .ensures ∙ whole-put _ _ _ _ (subst Sized (sym same) (sized (c .before .before .before .before .before .before .before .before .before .before))) (size (c .before .before .before .before .before .before .before .before .before .before)) ∙ ap packed same
+returns c =
+    let packed-whole = c .before .before in
+    let fronted = packed-whole .before .before .before .before in
+    let start = fronted .before .before .before .before in
+    let same = whole-is start _ (fronted .front-of .ensures) in
+    packed-whole .pack-whole .ensures ∙ whole-put _ _ _ _ (subst Sized (sym same) (sized start)) (size start) ∙ ap packed same
 
 pub pack-spec : {M : Type 1} → statement M
 pack-spec =

@@ -19,7 +19,7 @@ use Rattle.rules.proofs.ValidQueues.{sound}
 use Rattle.rules.proofs.Validity.{parts-of}
 use Rattle.rules.proofs.Refusals.{first-none}
 use Rattle.executive.specs.Replies.{replyBy}
-use Rattle.executive.proofs.Alike.{objectFlags, reply-same}
+use Rattle.executive.proofs.Replies.{objectFlags, reply-same}
 
 there : (ok : Bool) (count i : ℕ) → objectFlags ok count i ≡ 0 → (ok ≡ true) × (i < count)
 unfolding every

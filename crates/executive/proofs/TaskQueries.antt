@@ -1,4 +1,4 @@
--- The queries about tasks: the status by lent arrays is the rules', and where it is 0 so is the value.
+-- The three queries about tasks: the status is the rules', and where it is 0 so is the value.
 use Prim.Native.Nat.{ℕ, _%_}
 use mathlib.Core.Path.{_≡_, refl, sym, ap, _∙_}
 use mathlib.Core.Bool.{Bool, not, _||_}
@@ -18,7 +18,7 @@ use Rattle.rules.specs.Queries.{oneIf, arrivedQuery, priorityQuery, stateQuery}
 use Rattle.rules.proofs.Bools.{or-right}
 use Rattle.rules.proofs.Refusals.{first-none}
 use Rattle.executive.specs.Replies.{replyBy}
-use Rattle.executive.proofs.Alike.{objectFlags, reply-same}
+use Rattle.executive.proofs.Replies.{objectFlags, reply-same}
 
 abbrev arrivedFlags : Bool → ℕ → ℕ → ℕ → ℕ → List Reason
 arrivedFlags ok elected caller list operator =
