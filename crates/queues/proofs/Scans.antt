@@ -107,31 +107,31 @@ module _ (es cs : List ℕ) (k start first second third : ℕ) {a b c d : Bool} 
 
 -- a test that joined bits pass where all do: the bits so far, and what is still to be read
 module _ (p : ℕ → Bool) (joins : (a b : ℕ) → p (bitOr a b) ≡ (p a && p b)) (i to bits : ℕ) (l : List ℕ) {z : Bool} where
-  pub joined-again : (p bits && every p (slice i to l)) ≡ z → to ≤ length l → i < to
+  pub bits-again : (p bits && every p (slice i to l)) ≡ z → to ≤ length l → i < to
       → (p (bitOr bits (getD l i 0)) && every p (slice (i + 1) to l)) ≡ z
   unfolding every
-  joined-again k h g = rw (add-one, joins, and-assoc) (rw (slice-cons i to l 0) at k)
+  bits-again k h g = rw (add-one, joins, and-assoc) (rw (slice-cons i to l 0) at k)
 
-  pub joined-end : (p bits && every p (slice i to l)) ≡ z → to ≤ i → p bits ≡ z
+  pub bits-end : (p bits && every p (slice i to l)) ≡ z → to ≤ i → p bits ≡ z
   unfolding every
-  joined-end k h = rw (nothing-left i to l, and-true) at k
+  bits-end k h = rw (nothing-left i to l, and-true) at k
 
 module _ (i to bits : ℕ) (l : List ℕ) {z : Bool} where
   pub zero-again : (isZero bits && every isZero (slice i to l)) ≡ z → to ≤ length l → i < to
       → (isZero (bitOr bits (getD l i 0)) && every isZero (slice (i + 1) to l)) ≡ z
-  zero-again = joined-again isZero or-zero i to bits l
+  zero-again = bits-again isZero or-zero i to bits l
 
   pub zero-end : (isZero bits && every isZero (slice i to l)) ≡ z → to ≤ i → isZero bits ≡ z
-  zero-end = joined-end isZero or-zero i to bits l
+  zero-end = bits-end isZero or-zero i to bits l
 
 -- the end of the criteria is 2 ^ 4
 module _ (i to bits : ℕ) (l : List ℕ) {z : Bool} where
   pub range-again : (criterionInRange bits && every criterionInRange (slice i to l)) ≡ z → to ≤ length l → i < to
       → (criterionInRange (bitOr bits (getD l i 0)) && every criterionInRange (slice (i + 1) to l)) ≡ z
-  range-again = joined-again criterionInRange (or-below 4) i to bits l
+  range-again = bits-again criterionInRange (or-below 4) i to bits l
 
   pub range-end : (criterionInRange bits && every criterionInRange (slice i to l)) ≡ z → to ≤ i → criterionInRange bits ≡ z
-  range-end = joined-end criterionInRange (or-below 4) i to bits l
+  range-end = bits-end criterionInRange (or-below 4) i to bits l
 
 pub range-start : (l : List ℕ) → length l ≡ storeSize → every criterionInRange (slice 0 storeSize l) ≡ criteriaInRange l
 unfolding criteriaInRange
