@@ -14,9 +14,16 @@ mod words;
 
 use crate::script::play;
 
-// The list is read at once, and so can have 65,536 bytes.
+// How many bytes of the list are read: more than it has.
+const ROOM: usize = 131072;
+
+// The list is read at once. One that fills the room may go on behind it: nothing of it is played, so that no end of it is lost unseen.
 fn main() {
-    let mut text = io::large_buffer();
+    let mut text = [0u8; ROOM];
     let n = io::read_full(0, &mut text);
+    if n == ROOM {
+        say::line(b"The list of trials is longer than the program reads.");
+        return;
+    }
     play(&text[..n]);
 }

@@ -19,8 +19,8 @@ ghost use Rattle.rules.specs.Numbers.{storeSize};
 ghost use Rattle.rules.specs.Validity.{valid};
 ghost use Rattle.tables.specs.Fronts.{whole};
 
-// The bits of the regions' entries are looked at once, and serve the regions' part and the election. There is a way out before each call and each loop, so
-// that the numbers of a part in packed instructions are done with, and need not be put aside.
+// The bits of the regions' entries are gathered once, and serve the regions' part and the election. There is a way out before each call and
+// each loop, so that the numbers of a part in packed instructions are done with, and need not be put aside.
 pub fn front_valid<'a>(f: Front, element: &'a [u32; STORE], criterion: &'a [u8; STORE]) -> bool
     requires { ⌜ length (now element) ≡ storeSize ⌝ }
     requires { ⌜ length (now criterion) ≡ storeSize ⌝ }

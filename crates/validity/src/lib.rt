@@ -3,4 +3,3 @@ mod check;
 
 pub use check::front_valid;
 pub use check::is_valid;
-pub use tables::counts_right;
