@@ -22,7 +22,8 @@ pub(crate) fn timer_call(mut t: Front, k: Call) -> FrontDone
     ensures { λ r. ⌜ FrontStep t k r ⌝ }
 {
     let at = (k.a as usize) % TIMERS;
-    t.timers[at] = timer_after(k, t.ticks, t.timers[at]);
+    let ticks = t.ticks;
+    t.timers[at] = timer_after(k, ticks, t.timers[at]);
     FrontDone {
         front: t,
         answer: Answer {

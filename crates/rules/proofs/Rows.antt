@@ -1,5 +1,5 @@
 -- The ten P rows of document 01's bench examples, as one list, shown right by one claim that antt computes; and T-01's timers and T-04's counts likewise.
-use Prim.Native.Nat.{ℕ}
+use Prim.Native.Nat.{ℕ, _-_}
 use mathlib.Core.Path.{_≡_, refl}
 use mathlib.Core.Bool.{Bool, true, _&&_}
 use mathlib.Core.List.{List, [], _∷_}
@@ -9,14 +9,14 @@ use Rattle.rules.specs.declared.Table.{Table}
 use Rattle.rules.specs.declared.Call.{Call}
 use Rattle.rules.specs.declared.Answer.{Answer}
 use Rattle.rules.specs.declared.Done.{Done}
-use Rattle.rules.specs.Numbers.{outside, nobody, START, STOP, END, SIGNAL, WAIT, CLEAR, ENTER, EXIT, SEND, RETRIEVE, ARM, DISARM, TICK}
+use Rattle.rules.specs.Numbers.{tickEnd, outside, nobody, START, STOP, END, SIGNAL, WAIT, CLEAR, ENTER, EXIT, SEND, RETRIEVE, ARM, DISARM, TICK}
 use Rattle.rules.specs.Words.{all, every, below, padded}
 use Rattle.rules.specs.Events.{met, arrive, cleared}
 use Rattle.rules.specs.Tasks.{woken, signalled, waited}
 use Rattle.rules.specs.Regions.{held}
 use Rattle.rules.specs.Queues.{pairs, front, behind, laid, largest, before, place, without}
 use Rattle.rules.specs.Election.{smallest, lowest, isBest, bestReady, election}
-use Rattle.rules.specs.Tables.{taskOf, withRegion, queueOf}
+use Rattle.rules.specs.Tables.{taskOf, withRegion, withTimers, queueOf}
 use Rattle.rules.specs.Validity.{shaped, countsInRange, prioritiesInRange, boundsInRange, listsInRange, operatorsInRange, holdersInRange, criteriaInRange, zeroPast, zeroPastCounts, zeroPastLengths, restRight, statesRight, entriesRight, oneHolder, holderReady, holderElected, lengthsRight, electedRight, timerRight, timersRight, valid}
 use Rattle.rules.specs.Fresh.{configurationInRange, freshTable, fresh}
 use Rattle.rules.specs.Refusals.{missing, wrongState, leaves, reasons}
@@ -77,10 +77,10 @@ rightFrom does t (s ∷ ss) shows =
     sameAnswer (d .answer) (s .answer) && rightFrom does (d .table) ss shows
 
 -- "Each starts fresh: priorities 5, 5, 2, two regions, one queue of bound 2."
-begun : Done
+pub begun : Done
 begun = fresh 3 2 1 (5 ∷ 5 ∷ 2 ∷ []) (2 ∷ [])
 
-right : Does → Table → Run → Bool
+pub right : Does → Table → Run → Bool
 right does t r = rightFrom does t (r .says) (r .shows)
 
 -- each run of each row gives what is said of it, and the fresh table is accepted
@@ -240,11 +240,38 @@ disarms =
     ∷ says 2 ARM 0 5 1 0 2
     ∷ says outside TICK 0 0 0 0 2
     ∷ [])
+    ∷ endsWith 0 0
+    (says 0 ARM 0 3 1 0 0
+    ∷ says 0 START 2 0 0 0 2
+    ∷ says 2 WAIT 1 0 0 1 0
+    ∷ says 0 END 0 0 0 0 nobody
+    ∷ says outside SIGNAL 0 2 0 0 2
+    ∷ says 2 START 0 0 0 0 2
+    ∷ says 2 ARM 0 5 1 0 2
+    ∷ says outside TICK 0 0 0 0 2
+    ∷ [])
     ∷ []
 
 pub timerRows : rowsRight (onlyOutside ∷ inRange ∷ dueThen ∷ disarms ∷ []) step ≡ true
 unfolding computing
 timerRows = computed (rowsRight (onlyOutside ∷ inRange ∷ dueThen ∷ disarms ∷ [])) refl
+
+-- "The tick counter has 32 bits and starts again at 0; a timer is due when the counter, so wrapped, reaches its date": from the counter's last
+-- number a delay of two ticks ends at 1; and at 0, which is the date in an idle timer, nothing rings
+abbrev wrapped : List Run
+wrapped =
+    endsWith 0 0 (says 0 ARM 0 3 2 0 0 ∷ says outside TICK 0 0 0 0 0 ∷ [])
+    ∷ endsWith 0 8 (says 0 ARM 0 3 2 0 0 ∷ says outside TICK 0 0 0 0 0 ∷ says outside TICK 0 0 0 0 0 ∷ [])
+    ∷ endsWith 0 0 (says outside TICK 0 0 0 0 0 ∷ says outside TICK 0 0 0 0 0 ∷ [])
+    ∷ []
+
+-- the fresh table with the counter at its last number
+abbrev atLastTick : Table
+atLastTick = withTimers (tickEnd - 1) (begun .table .timers) (begun .table)
+
+pub wrappedRows : every (right step atLastTick) wrapped ≡ true
+unfolding computing
+wrappedRows = computed (λ does. every (right does atLastTick) wrapped) refl
 
 -- ---- T-04, sentence by sentence
 

@@ -3,6 +3,7 @@
 mod blocks;
 mod configurations;
 mod damage;
+mod marks;
 mod names;
 mod questions;
 mod rows;

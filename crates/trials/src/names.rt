@@ -14,3 +14,5 @@ pub(crate) const CHANGE: u32 = 261;
 pub(crate) const CONFIGURE: u32 = 262;
 
 pub(crate) const LIST: u32 = 263;
+
+pub(crate) const MARKS: u32 = 265;

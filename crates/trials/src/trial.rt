@@ -1,10 +1,12 @@
 // One trial: its table, what is tried on it, and the rest of its line.
 use super::blocks::same_tables;
 use super::damage::spoiled;
+use super::marks::marked;
 use super::names::ARRIVED;
 use super::names::CHANGE;
 use super::names::CONFIGURE;
 use super::names::LIST;
+use super::names::MARKS;
 use super::names::STATE;
 use super::questions::replied;
 use super::rows::Row;
@@ -77,6 +79,10 @@ pub(crate) fn trial(r: Row, before: Table) -> Table {
         CHANGE => damaged(table, r),
         CONFIGURE => configurations::benched(r),
         LIST => configurations::listed(r),
+        MARKS => {
+            marked(r);
+            table
+        }
         _ => {
             configurations::lengthened();
             table

@@ -54,7 +54,7 @@ fn name_of(word: &[u8]) -> u32 {
         word,
         b"0 fresh signalled held full rivals asleep ended busy largest last filled zeros wrong turning armed then \
         0 START STOP END SIGNAL WAIT CLEAR ENTER EXIT SEND RETRIEVE ARM DISARM TICK \
-        256 ARRIVED EMPTY FULL PRIORITY STATE Change Configure List Lengthen \
+        256 ARRIVED EMPTY FULL PRIORITY STATE Change Configure List Lengthen Marks \
         0 tasks regions queues elected priority state arrived list operator holder entries bound length element criterion \
         ticks flag owner event date \
         0 all any \
