@@ -3,16 +3,28 @@ use super::rows::Row;
 use crate::say;
 use exclusion::excludes;
 
-// The row of operation a: + where it excludes the operation of the column, else -.
+// + where the operation of the row excludes that of the column, else -.
+fn mark(row: u8, column: u8) {
+    if excludes(row, column) {
+        say::word(b"+");
+    } else {
+        say::word(b"-");
+    }
+}
+
+// The row of operation a.
 pub(crate) fn marked(r: Row) {
     let row = (r.a % 256) as u8;
     say::word(b": ");
-    for column in 0..10 {
-        if excludes(row, column as u8) {
-            say::word(b"+");
-        } else {
-            say::word(b"-");
-        }
-    }
+    mark(row, 0);
+    mark(row, 1);
+    mark(row, 2);
+    mark(row, 3);
+    mark(row, 4);
+    mark(row, 5);
+    mark(row, 6);
+    mark(row, 7);
+    mark(row, 8);
+    mark(row, 9);
     say::word(b"\n");
 }
