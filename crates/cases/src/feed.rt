@@ -35,9 +35,9 @@ fn piece_answered(
     p
 }
 
-// The input in pieces of that size, and its end, at which what is kept gets its answer. The output has room for an answer line to every
-// byte of the buffer, since a line may be its line feed alone.
-pub(crate) fn run(input: &[u8], size: usize)
+// The input in pieces of that size, and its end, at which what is kept gets its answer. Returns how many pieces were fed. The output has
+// room for an answer line to every byte of the buffer, since a line may be its line feed alone.
+pub(crate) fn run(input: &[u8], size: usize) -> usize
     requires { ⌜ (1 ≤ size) × (size ≤ 4096) ⌝ }
 {
     let mut buffer = [0u8; BUFFER];
@@ -45,6 +45,7 @@ pub(crate) fn run(input: &[u8], size: usize)
     let mut s = at_start();
     let mut kept = 0;
     let mut at = 0;
+    let mut pieces = 0;
     while at < input.len() {
         let n = lesser(size, input.len() - at);
         let to = at + n;
@@ -52,7 +53,9 @@ pub(crate) fn run(input: &[u8], size: usize)
         s = p.standing;
         kept = p.kept;
         at = to;
+        pieces = pieces + 1;
     }
     let written = finish(s, &buffer[0..kept], &mut out);
     io::write_all(STDOUT_FILENO, &out[0..written]);
+    pieces
 }

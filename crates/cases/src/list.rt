@@ -15,6 +15,13 @@ fn write_heading(parts: &[u8], size: usize) {
     io::write_all(STDOUT_FILENO, b"\n");
 }
 
+// The end of a case: in how many pieces its input was fed, so that a run that ignores the size is seen.
+fn write_pieces(pieces: usize) {
+    io::write_all(STDOUT_FILENO, b"# pieces: ");
+    io::print_decimal(STDOUT_FILENO, pieces as u64);
+    io::write_all(STDOUT_FILENO, b"\n");
+}
+
 // The place behind the space at `at`, where there is one.
 fn behind(at: usize, end: usize) -> usize
     requires { ⌜ at ≤ end ⌝ }
@@ -26,7 +33,7 @@ fn behind(at: usize, end: usize) -> usize
     at
 }
 
-// A case: its heading, and the answers to its input, which is put together whole.
+// A case: its heading, the answers to its input, which is put together whole, and the number of its pieces.
 fn case(text: &[u8]) {
     let space = find(text, 0, text.len(), b' ');
     let size = size_of(&text[0..space]);
@@ -34,7 +41,7 @@ fn case(text: &[u8]) {
     write_heading(&text[from..], size);
     let mut input = [0u8; 131072];
     let n = laid(&text[from..], &mut input);
-    run(&input[0..n], size);
+    write_pieces(run(&input[0..n], size));
 }
 
 // A line of the list. A heading is written as it is; an empty line and a remark, which starts with `//`, are not.

@@ -78,7 +78,7 @@ module _ (s : Standing) (bs : List ℕ) (unended : before lineFeed bs ≡ length
           rw (cut-onto (take (mostKept) bs) ys (unended-take (mostKept) bs unended), cut-onto bs ys unended)
           (long-same (leb-false (length bs) longest e) (cut ys .lines) (cut ys .rest))
 
-ending-kept : (s : Standing) (bs : List ℕ) → ending s (kept bs) ≡ ending s bs
+pub ending-kept : (s : Standing) (bs : List ℕ) → ending s (kept bs) ≡ ending s bs
 unfolding ending kept
 ending-kept s [] = refl
 ending-kept s (b ∷ bs) = refl
@@ -101,6 +101,17 @@ parts-from (part ∷ parts) s bs h =
     let rest = parts-from parts (standingAfter s (cut (bs ++ part) .lines)) (cut (bs ++ part) .rest) (cut-rest (bs ++ part)) in
     rw (same .written, same .standing, same .left, rest, ← append-assoc bs part (joined parts))
     (sym (run-append s (bs ++ part) (joined parts)))
+
+-- what stands after some bytes, and after more of them: the same as if all had come at once
+module _ (s : Standing) (xs ys : List ℕ) where
+  same-on : Same (standingAfter s (cut xs .lines)) (cut (kept (cut xs .rest) ++ ys)) (cut (cut xs .rest ++ ys))
+  same-on = kept-same (standingAfter s (cut xs .lines)) (cut xs .rest) (cut-rest xs) ys
+
+  pub standing-on : standingAfter (standingAfter s (cut xs .lines)) (cut (kept (cut xs .rest) ++ ys) .lines) ≡ standingAfter s (cut (xs ++ ys) .lines)
+  standing-on = rw (cut-append ys xs, standing-append s (cut xs .lines) (cut (cut xs .rest ++ ys) .lines)) (same-on .standing)
+
+  pub left-on : kept (cut (kept (cut xs .rest) ++ ys) .rest) ≡ kept (cut (xs ++ ys) .rest)
+  left-on = rw (cut-append ys xs) (same-on .left)
 
 -- ---- the theorems
 

@@ -1,7 +1,9 @@
--- What is written fits the output, and what is kept is at most a line that is too long by one byte.
+-- What is read stands behind what is kept, and what is answered fits the output.
 use borrow.Author.Needs.{needs}
-use Rattle.session.proofs.Ending.{ending-within}
-use Rattle.session.proofs.Buffers.{kept-small, written-within}
+use borrow.Rule.Slice.PartMut.{take-put}
+use Prim.Native.Nat.{_-_}
+use lib.ListN.{length}
+use Rattle.bench.proofs.Rounds.{did-end, did-part}
 use Rattle.bench.proofs.round_of.Statement.{statement}
 use Rattle.bench.proofs.round_of.Tie as tie
 
@@ -41,18 +43,6 @@ part-finish-end c = search needs
 finish-requires : tie.Need-finish-requires
 finish-requires c κs = search needs
 
-sub-write-all : tie.Need-sub-write-all
-sub-write-all c = search needs
-
-part-write-all-start : tie.Need-part-write-all-start
-part-write-all-start c = search needs
-
-part-write-all-end : tie.Need-part-write-all-end
-part-write-all-end c = let w = ending-within _ _ _ _ (c .before .before .before .finish .ensures .0) in search needs
-
-write-all-requires : tie.Need-write-all-requires
-write-all-requires c κs = search needs
-
 same-length : tie.Need-same-length
 same-length c = search needs
 
@@ -60,25 +50,19 @@ same-length-2 : tie.Need-same-length-2
 same-length-2 c = search needs
 
 returns : tie.Need-returns
-returns c = search needs
+returns c =
+    let read = c .before .before .before .before .before .before .before .before .before .before .before .before in
+    let entry = read .before .before .before .before .args in
+    let old = entry .buffer .now in
+    let same = take-put (entry .kept) (length old - entry .kept) old (read .read .last .1 .0) (search needs) in
+    let ended = c .before .before .finish .ensures in
+    did-end _ (entry .kept) old _ (entry .out .now) same (search needs) (search needs) _ (ended .0) _ (ended .1)
 
-add-end : tie.Need-add-end
-add-end c = search needs
+add-piece : tie.Need-add-piece
+add-piece c = search needs
 
 piece-requires : tie.Need-piece-requires
 piece-requires c κs = search needs
-
-sub-write-all-2 : tie.Need-sub-write-all-2
-sub-write-all-2 c = search needs
-
-part-write-all-start-2 : tie.Need-part-write-all-start-2
-part-write-all-start-2 c = search needs
-
-part-write-all-end-2 : tie.Need-part-write-all-end-2
-part-write-all-end-2 c = let w = written-within _ _ _ _ (c .before .before .before .before .before .piece .ensures .0) in search needs
-
-write-all-requires-2 : tie.Need-write-all-requires-2
-write-all-requires-2 c κs = search needs
 
 same-length-3 : tie.Need-same-length-3
 same-length-3 c = search needs
@@ -87,7 +71,15 @@ same-length-4 : tie.Need-same-length-4
 same-length-4 c = search needs
 
 returns-2 : tie.Need-returns-2
-returns-2 c = kept-small _ _ _ _ (c .before .before .before .before .before .before .before .before .piece .ensures .0)
+returns-2 c =
+    let count = c .before .before .before .before .before .before .before .before .before in
+    let read = count .before .before .before .before .before in
+    let entry = read .before .before .before .before .args in
+    let old = entry .buffer .now in
+    let same = take-put (entry .kept) (length old - entry .kept) old (read .read .last .1 .0) (search needs) in
+    let piece = c .before .before .before .before .before .piece .ensures in
+    did-part _ (entry .kept) (count .count .result) old _ (entry .out .now) same (search needs) (search needs) (search needs) _
+    (piece .0) _ _ (piece .1 .0) (piece .1 .1)
 
 pub round-of-spec : {M : Type 1} → statement M
 round-of-spec =
@@ -105,19 +97,11 @@ round-of-spec =
     part-finish-start
     part-finish-end
     finish-requires
-    sub-write-all
-    part-write-all-start
-    part-write-all-end
-    write-all-requires
     same-length
     same-length-2
     returns
-    add-end
+    add-piece
     piece-requires
-    sub-write-all-2
-    part-write-all-start-2
-    part-write-all-end-2
-    write-all-requires-2
     same-length-3
     same-length-4
     returns-2)

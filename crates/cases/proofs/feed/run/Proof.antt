@@ -10,11 +10,11 @@ use Rattle.cases.proofs.feed.run.Statement.{statement}
 use Rattle.cases.proofs.feed.run.Tie as tie
 
 abbrev Inv-loop : tie.InvT-loop
-Inv-loop input size buffer₀ out₀ s₀ kept₀ at₀ buffer out s kept at =
-    (at ≤ length input) × (kept ≤ mostKept) × (length buffer ≡ mostKept + 4096) × (length out ≡ answerLength * (mostKept + 4096))
+Inv-loop input size buffer₀ out₀ s₀ kept₀ at₀ pieces₀ buffer out s kept at pieces =
+    (at ≤ length input) × (pieces ≤ at) × (kept ≤ mostKept) × (length buffer ≡ mostKept + 4096) × (length out ≡ answerLength * (mostKept + 4096))
 
 abbrev μ-loop : tie.MeasureT-loop
-μ-loop input size buffer₀ out₀ s₀ kept₀ at₀ buffer out s kept at = length input - at
+μ-loop input size buffer₀ out₀ s₀ kept₀ at₀ pieces₀ buffer out s kept at pieces = length input - at
 
 at-start-requires : tie.Need-at-start-requires Inv-loop μ-loop
 at-start-requires c κs = omega arith
@@ -48,6 +48,9 @@ slice-aggregate-piece-answered-2 c = omega arith
 
 piece-answered-requires : tie.Need-piece-answered-requires Inv-loop μ-loop
 piece-answered-requires c κs = omega arith
+
+add-pieces : tie.Need-add-pieces Inv-loop μ-loop
+add-pieces c = omega arith
 
 loop-less : tie.Need-loop-less Inv-loop μ-loop
 loop-less c = omega arith
@@ -102,6 +105,7 @@ run-spec =
     slice-aggregate-piece-answered
     slice-aggregate-piece-answered-2
     piece-answered-requires
+    add-pieces
     loop-less
     loop-again
     sub-finish
