@@ -45,7 +45,7 @@ module _ (input : List ℕ) (at : ℕ) where
     pub first : First input at next line
     pub long : longest < length line
 
-  abbrev Found : Line → Type 0
+  abbrev pub Found : Line → Type 0
   Found (Whole from to next) = First input at next (part from to input)
   Found (TooLong next) = Long next
   Found Unended = cut (drop at input) .lines ≡ []

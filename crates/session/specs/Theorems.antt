@@ -1,4 +1,4 @@
--- What is shown of a bench session: the input may be cut anywhere.
+-- What is shown of a bench session: one reader walks the lines of a log, and the input may be cut anywhere.
 use Prim.Native.Nat.{ℕ, _*_, _≤_}
 use mathlib.Core.Path.{_≡_}
 use mathlib.Core.List.{List, [], _∷_, _++_}
@@ -6,9 +6,15 @@ use lib.ListN.{length}
 use Rattle.frames.specs.Answers.{answerLength}
 use Rattle.bench_lines.specs.declared.start.Standing.{Standing}
 use Rattle.bench_lines.specs.Start.{start}
+use Rattle.session.specs.Lines.{cut}
+use Rattle.session.specs.Walk.{Walks}
 use Rattle.session.specs.Feed.{pieceAnswers}
 use Rattle.session.specs.Run.{run, joined, runParts}
 use Rattle.session.specs.Pieces.{pieceLeft, pieceResult}
+
+-- one reader, put at the start of a log and asked for its next line again and again, gives the lines of the log in turn
+abbrev pub ReaderWalks : Type 0
+ReaderWalks = (log : List ℕ) → Walks log 0 (cut log .lines)
 
 -- however the input is cut into parts, the run over the parts writes the same bytes as the run over the whole
 abbrev pub PartsAgree : Type 0
