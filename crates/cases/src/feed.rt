@@ -1,6 +1,5 @@
 // An input fed to a session in pieces: the answers are written.
 use super::words::LARGEST;
-use super::words::lesser;
 use bytes::copy;
 use frames::ANSWER;
 use libc::STDOUT_FILENO;
@@ -10,6 +9,7 @@ use session::Standing;
 use session::at_start;
 use session::finish;
 use session::piece;
+use tables::lesser;
 ghost use Prim.Native.Nat.{_+_, _≤_};
 ghost use lib.ListN.{length};
 ghost use Rattle.session.specs.Run.{mostKept};

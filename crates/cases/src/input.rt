@@ -1,9 +1,9 @@
 // The input of a case, put together from its parts: files, and long lines that are made here.
 use super::words::is_number;
-use super::words::lesser;
-use super::words::number_of;
 use bytes::scan::find;
+use digits::decimal_of;
 use libc::STDOUT_FILENO;
+use tables::lesser;
 ghost use Prim.Native.Nat.{_≤_};
 ghost use lib.ListN.{length};
 
@@ -42,7 +42,7 @@ fn part_laid(word: &[u8], rest: &mut [u8]) -> usize
     ensures { λ r. ⌜ r ≤ length (now (rest .entry)) ⌝ }
 {
     if is_number(word) {
-        return line_laid(number_of(word), rest);
+        return line_laid(decimal_of(word) as usize, rest);
     }
     file_laid(word, rest)
 }

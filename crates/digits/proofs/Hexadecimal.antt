@@ -1,15 +1,11 @@
--- Laws of digits: how large the number of one is, and a turn and the end of the loop over characters.
+-- Laws of digits: how large the number of one is, and the number in two.
 use Prim.Native.Nat.{ℕ, _+_, _*_, _<_, _≤_}
 use mathlib.Core.Path.{_≡_, refl}
-use mathlib.Core.Bool.{Bool, true, false, _&&_, and-assoc, and-true}
-use mathlib.Core.List.{List, [], _∷_}
-use native.Mathlib.Numerals.{add-one}
+use mathlib.Core.Bool.{Bool, true, false, _&&_}
+use mathlib.Core.List.{[], _∷_}
 use native.Mathlib.Omega.{arith}
 use lib.Dec.{leb}
-use lib.ListN.{length, drop, getD, drop-of-length-le}
-use lib.Seq.{drop-cons}
 use borrow.Author.Tests.{leb-true}
-use Rattle.rules.specs.Words.{every}
 use Rattle.rules.proofs.Bools.{and-left, and-right}
 use Rattle.digits.specs.Digits.{isFigure, isLetter, digit, valueFrom, value}
 
@@ -27,18 +23,6 @@ digit-small b = go (isFigure b) (isLetter b) refl refl
 -- what can be taken from the first character of a range can be taken from each
 pub at-least : (k first last b : ℕ) → (leb first b && leb b last) ≡ true → k ≤ first → k ≤ b
 at-least k first last b h g = let from = leb-true first b (and-left (leb first b) (leb b last) h) in omega arith
-
--- ---- every character is a digit: those passed, and what is still to be read
-
-module _ (p : ℕ → Bool) (i : ℕ) (l : List ℕ) (ok : Bool) {z : Bool} where
-  pub every-again : (here : Bool) → (ok && every p (drop i l)) ≡ z → here ≡ p (getD l i 0) → i < length l
-      → ((ok && here) && every p (drop (i + 1) l)) ≡ z
-  unfolding every
-  every-again here k e h = rw (add-one, and-assoc, e) (rw (drop-cons l i 0 h) at k)
-
-  pub every-end : (ok && every p (drop i l)) ≡ z → length l ≤ i → ok ≡ z
-  unfolding every
-  every-end k h = rw (drop-of-length-le l h, and-true) at k
 
 -- ---- the number in two digits
 

@@ -40,3 +40,12 @@ character d = cond (ltb d 10) (48 + d) (55 + d)
 unfoldable pub digits : ℕ → ℕ → List ℕ
 digits zero n = []
 digits (suc k) n = digits k (n / 16) ++ character (n % 16) ∷ []
+
+-- a number in decimal behind the number n, for words of a list: a character counts for what its code leaves over 16
+unfoldable pub decimalFrom : ℕ → List ℕ → ℕ
+decimalFrom n [] = n
+decimalFrom n (b ∷ bs) = decimalFrom (n % 1000000000 * 10 + b % 16) bs
+
+-- in 32 bits
+abbrev pub decimal : List ℕ → ℕ
+decimal word = decimalFrom 0 word % 4294967296

@@ -4,6 +4,7 @@ use packing::answer_number;
 use rules::Call;
 use rules::STORE;
 use tables::Front;
+use tables::lesser;
 use validity::front_valid;
 ghost use mathlib.Core.Path.{_≡_};
 ghost use Prim.Native.Nat.{_+_, _*_, _≤_, _<_, min};
@@ -17,12 +18,6 @@ ghost use Rattle.replay.specs.Log.{callAt, replayed, laps, logged};
 pub(crate) struct LogRun {
     pub(crate) front: Front,
     pub(crate) count: usize,
-}
-
-fn lesser(x: usize, y: usize) -> usize
-    ensures { λ r. ⌜ r ≡ min x y ⌝ }
-{
-    if x < y { x } else { y }
 }
 
 // Call i of the log, five numbers each; caller and operation are taken modulo 256.

@@ -2,6 +2,7 @@
 use crate::feed::feed;
 use bench_lines::Standing;
 use lines::LONGEST;
+use tables::lesser;
 ghost use mathlib.Core.Path.{_≡_};
 ghost use Prim.Native.Nat.{_+_, _≤_, min};
 ghost use lib.ListN.{length, take, drop};
@@ -16,12 +17,6 @@ pub struct PieceEnd {
     pub standing: Standing,
     pub kept: usize,
     pub written: usize,
-}
-
-fn lesser(x: usize, y: usize) -> usize
-    ensures { λ r. ⌜ r ≡ min x y ⌝ }
-{
-    if x < y { x } else { y }
 }
 
 // Moves the n bytes from `from` on to the front.

@@ -11,3 +11,4 @@ pub use front::FrontDone;
 pub use front::front_of;
 pub use front::table_of;
 pub use lookup::byte_at;
+pub use lookup::lesser;

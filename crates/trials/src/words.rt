@@ -2,20 +2,12 @@
 use crate::say;
 use bytes::scan::find;
 use check::same;
+use digits::decimal_of;
 use std::num::wrapping_add_u32;
 use tables::byte_at;
 
 // What no name stands for.
 const NOTHING: u32 = 4294967295;
-
-// A number in decimal. A digit's value is what its byte leaves over 16.
-fn number_of(word: &[u8]) -> u32 {
-    let mut n = 0u64;
-    for i in 0..word.len() {
-        n = n % 1000000000 * 10 + (word[i] % 16) as u64;
-    }
-    (n % 4294967296) as u32
-}
 
 // Digits come before letters.
 fn is_number(word: &[u8]) -> bool {
@@ -26,7 +18,7 @@ fn is_number(word: &[u8]) -> bool {
 // What the next name of a list stands for: behind a number, that number, and behind a name one more than that name.
 fn next(n: u32, word: &[u8]) -> u32 {
     if is_number(word) {
-        return number_of(word);
+        return decimal_of(word);
     }
     wrapping_add_u32(n, 1)
 }
@@ -66,7 +58,7 @@ fn name_of(word: &[u8]) -> u32 {
 // The number that a word stands for. An unknown word is written out, so that it can't go unseen.
 pub(crate) fn value_of(word: &[u8]) -> u32 {
     if is_number(word) {
-        return number_of(word);
+        return decimal_of(word);
     }
     let n = name_of(word);
     if n == NOTHING {

@@ -1,23 +1,23 @@
--- What is true of those passed and of those still to be read is true of all; at the end nothing is still to be read.
+-- The flag so far is the test of every character passed.
 use borrow.Author.Needs.{needs}
 use Prim.Native.Nat.{_-_}
 use mathlib.Core.Path.{_≡_}
-use mathlib.Core.Bool.{_&&_}
-use lib.ListN.{length, drop}
+use lib.ListN.{length, take}
 use Rattle.rules.specs.Words.{every}
 use Rattle.rules.proofs.Counts.{ends}
+use Rattle.rules.proofs.Lists.{every-again, every-end}
 use Rattle.digits.specs.Digits.{isDigit}
-use Rattle.digits.proofs.Hexadecimal.{every-again, every-end}
 use Rattle.digits.proofs.read.all_digits.Statement.{statement}
 use Rattle.digits.proofs.read.all_digits.Tie as tie
 
 abbrev Inv-loop : tie.InvT-loop
-Inv-loop s ok₀ i₀ i-end ok i = (ok && every isDigit (drop i s)) ≡ every isDigit s
+Inv-loop s ok₀ i₀ i-end ok i = ok ≡ every isDigit (take i s)
 
 abbrev μ-loop : tie.MeasureT-loop
 μ-loop s ok₀ i₀ i-end ok i = length s - i
 
 loop-holds : tie.Need-loop-holds Inv-loop μ-loop
+unfolding every
 loop-holds c = search needs
 
 shared-slice-read-is-digit : tie.Need-shared-slice-read-is-digit Inv-loop μ-loop
