@@ -10,14 +10,15 @@ use session::at_start;
 use session::finish;
 use session::piece;
 use tables::lesser;
-ghost use Prim.Native.Nat.{_+_, _≤_};
+ghost use Prim.Native.Nat.{_+_, _*_, _≤_};
 ghost use lib.ListN.{length};
+ghost use Rattle.frames.specs.Answers.{answerLength};
 ghost use Rattle.session.specs.Run.{mostKept};
 
 // The bytes that are kept of a line that goes on, and a piece behind them.
 const BUFFER: usize = KEPT + LARGEST;
 
-// Lays a piece behind the bytes that are kept, and answers the lines that have ended.
+// Lays a piece behind the bytes that are kept, and answers the lines that have ended: there is room for an answer to every byte.
 fn piece_answered(
     s: Standing,
     kept: usize,
@@ -25,7 +26,7 @@ fn piece_answered(
     buffer: &mut [u8],
     out: &mut [u8],
 ) -> PieceEnd
-    requires { ⌜ kept + length (now part) ≤ length (now buffer) ⌝ }
+    requires { ⌜ (kept + length (now part) ≤ length (now buffer)) × (answerLength * (kept + length (now part)) ≤ length (now out)) ⌝ }
     ensures { λ r. ⌜ r .kept ≤ mostKept ⌝ }
 {
     copy(part, &mut buffer[kept..]);

@@ -1,11 +1,11 @@
 -- Laws of the lent buffers: a part moved to the front, what a piece leaves, and the answer at the end.
 use Prim.Native.Nat.{ℕ, zero, suc, _+_, _*_, _-_, _/_, _<_, _≤_, min}
 use mathlib.Core.Path.{_≡_, refl, sym, ap, _∙_}
-use mathlib.Core.Bool.{Bool, true, false}
+use mathlib.Core.Bool.{Bool, true, false, cond}
 use mathlib.Core.List.{List, [], _∷_, _++_, append-assoc}
 use native.Mathlib.Omega.{arith}
 use native.Mathlib.Numerals.{add-one}
-use lib.Dec.{eqb, leb}
+use lib.Dec.{eqb, ltb, leb}
 use lib.ListN.{length, take, drop, getD, set, length-take, length-drop}
 use lib.Seq.{take-suc, take-all, take-take, take-add, drop-at, drop-cons, length-take-le, set-at, getD-append-add, getD-drop}
 use borrow.Author.Tests.{leb-true, leb-false}
@@ -80,12 +80,14 @@ taken-within room input = let t = taken-take (room / answerLength) (cut input .l
 drop-take : (from m : ℕ) (l : List ℕ) → from + m ≤ length l → drop from (take (from + m) l) ≡ take m (drop from l)
 drop-take from m l h = rw take-add (drop-at (take from l) (take m (drop from l)) from (length-take-le from l (omega arith)))
 
-pub kept-front : (from to : ℕ) (l : List ℕ) → from ≤ to → to ≤ length l → take (min (to - from) mostKept) (drop from l) ≡ kept (drop from (take to l))
+part-front : (from to : ℕ) (l : List ℕ) → from ≤ to → to ≤ length l → take (to - from) (drop from l) ≡ drop from (take to l)
+part-front from to l h k =
+    let whole : from + (to - from) ≡ to = omega arith in
+    sym (drop-take from (to - from) l (omega arith)) ∙ ap (λ n. drop from (take n l)) whole
+
+kept-front : (from to : ℕ) (l : List ℕ) → from ≤ to → to ≤ length l → take (min (to - from) mostKept) (drop from l) ≡ kept (drop from (take to l))
 unfolding kept
-kept-front from to l h k =
-    let whole : to ≡ from + (to - from) = omega arith in
-    let part : drop from (take to l) ≡ take (to - from) (drop from l) = ap (λ n. drop from (take n l)) whole ∙ drop-take from (to - from) l (omega arith) in
-    rw part (go (leb (to - from) mostKept) refl)
+kept-front from to l h k = rw (← part-front from to l h k) (go (leb (to - from) mostKept) refl)
   where
     go : (b : Bool) → leb (to - from) mostKept ≡ b → take (min (to - from) mostKept) (drop from l) ≡ take mostKept (take (to - from) (drop from l))
     go true e =
@@ -97,6 +99,19 @@ kept-front from to l h k =
         let many = leb-false (to - from) mostKept e in
         let same : min (to - from) mostKept ≡ mostKept = omega arith in
         rw (same, take-take mostKept (to - from) (drop from l) (omega arith))
+
+-- how many of the bytes from a place on are kept, and which: all of them, or those of a line that goes on
+abbrev keptCount : Bool → ℕ → ℕ
+keptCount all rest = cond all rest (min rest mostKept)
+
+count-within : (all : Bool) (rest : ℕ) → keptCount all rest ≤ rest
+count-within true rest = omega arith
+count-within false rest = omega arith
+
+count-front : (all : Bool) (from to : ℕ) (l : List ℕ) → from ≤ to → to ≤ length l
+    → take (keptCount all (to - from)) (drop from l) ≡ cond all (drop from (take to l)) (kept (drop from (take to l)))
+count-front true from to l h k = part-front from to l h k
+count-front false from to l h k = kept-front from to l h k
 
 -- as the code has it: `to` is where the piece ends in the buffer l, f what its lines did
 module _ (s : Standing) (room end : ℕ) (l : List ℕ) (to : ℕ) (t : to ≡ min end (length l)) (f : Progress)
@@ -117,13 +132,21 @@ module _ (s : Standing) (room end : ℕ) (l : List ℕ) (to : ℕ) (t : to ≡ m
       let long = length-take end l in
       omega (arith, place)
 
+  wrote : f .written ≡ answerLength * length (fitting room (take end l))
+  unfolding feedProgress
+  wrote = ap (λ x. x .written) came ∙ omega arith
+
+  pub lines-fit : f .written ≤ room
+  unfolding fitting
+  lines-fit = let many = length-take (room / answerLength) (cut (take end l) .lines) in omega (arith, wrote)
+
   pub answers-there : (out new : List ℕ) → new ≡ over (pieceAnswers s room (take (to - 0) (drop 0 l))) out
       → new ≡ over (pieceAnswers s room (take end l)) out
   answers-there out new k = k ∙ ap (λ xs. over (pieceAnswers s room xs) out) input
 
-  module _ (n : ℕ) (k : n ≡ min (to - f .next) mostKept) where
+  module _ (n : ℕ) (k : n ≡ keptCount (ltb (room - f .written) answerLength) (to - f .next)) where
     pub front-fits : f .next + n ≤ length l
-    front-fits = let h = next-within in omega arith
+    front-fits = let h = next-within in let few = count-within (ltb (room - f .written) answerLength) (to - f .next) in omega (arith, k)
 
     left-there : take n (drop (f .next) l) ≡ pieceLeft room (take end l)
     unfolding pieceLeft
@@ -131,7 +154,9 @@ module _ (s : Standing) (room end : ℕ) (l : List ℕ) (to : ℕ) (t : to ≡ m
         let h = next-within in
         let same : to ≡ to - 0 = omega arith in
         let whole : take to l ≡ take end l = ap (λ m. take m l) same ∙ input in
-        rw k (kept-front (f .next) to l h (omega arith)) ∙ ap (λ xs. kept (drop (f .next) xs)) whole ∙ ap (λ m. kept (drop m (take end l))) place
+        let behind : cond (ltb (room - f .written) answerLength) (drop (f .next) (take to l)) (kept (drop (f .next) (take to l)))
+        ≡ pieceLeft room (take end l) = rw (whole, place, wrote) in
+        rw k (count-front (ltb (room - f .written) answerLength) (f .next) to l h (omega arith)) ∙ behind
 
     pub left-moved : (new : List ℕ) → new ≡ over (take n (drop (f .next) l)) l → new ≡ over (pieceLeft room (take end l)) l
     left-moved new h = h ∙ ap (λ xs. over xs l) left-there
@@ -142,16 +167,11 @@ module _ (s : Standing) (room end : ℕ) (l : List ℕ) (to : ℕ) (t : to ≡ m
         let so-many : length (take n (drop (f .next) l)) ≡ n = length-take-le n (drop (f .next) l) (rw length-drop (omega (arith, front-fits))) in
         let many : n ≡ length (pieceLeft room (take end l)) = sym so-many ∙ ap length left-there in
         let stands : f .standing ≡ standingAfter s (fitting room (take end l)) = ap (λ x. x .standing) came in
-        let wrote : f .written ≡ answerLength * length (fitting room (take end l)) = ap (λ x. x .written) came ∙ omega arith in
         rw (stands, wrote, many)
 
--- ---- how much is kept and written, as a caller asks
+-- ---- how much is written, as a caller asks
 
 module _ (s : Standing) (room : ℕ) (input : List ℕ) (p : PieceEnd) (e : p ≡ pieceResult s room input) where
-  pub kept-small : p .kept ≤ mostKept
-  unfolding pieceResult pieceLeft kept
-  kept-small = rw (e, length-take) (omega arith)
-
   pub written-within : p .written ≤ room
   unfolding pieceResult fitting
   written-within = rw (e, length-take) (omega arith)

@@ -8,3 +8,4 @@ pub mod Ending
 pub mod Buffers
 pub mod Rooms
 pub mod Parts
+pub mod Lost

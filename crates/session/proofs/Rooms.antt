@@ -1,21 +1,24 @@
 -- Laws of room for an answer to every byte: it is room for all lines.
-use Prim.Native.Nat.{ℕ, suc, _+_, _*_, _/_, _≤_}
-use mathlib.Core.Path.{_≡_, refl, ap}
-use mathlib.Core.Bool.{Bool, true, false}
+use Prim.Native.Nat.{ℕ, suc, _+_, _*_, _-_, _/_, _≤_}
+use mathlib.Core.Path.{_≡_, refl, sym, ap}
+use mathlib.Core.Bool.{Bool, true, false, cond}
 use mathlib.Core.List.{List, [], _∷_}
 use native.Mathlib.Omega.{arith}
-use lib.Dec.{eqb}
-use lib.ListN.{length, drop}
+use lib.Dec.{eqb, ltb}
+use lib.ListN.{length, take, drop, length-take}
 use lib.Seq.{take-all}
+use borrow.Author.Tests.{ltb-true}
 use Rattle.lines.specs.Ends.{lineFeed}
 use Rattle.frames.specs.Answers.{answerLength}
+use Rattle.bench_lines.specs.declared.start.Standing.{Standing}
+use Rattle.session.specs.declared.pieces.PieceEnd.{PieceEnd}
 use Rattle.session.specs.Lines.{onto, cut}
 use Rattle.session.specs.Feed.{fitting, taken}
-use Rattle.session.specs.Run.{kept}
-use Rattle.session.specs.Pieces.{pieceLeft}
+use Rattle.session.specs.Run.{mostKept, kept}
+use Rattle.session.specs.Pieces.{pieceLeft, pieceResult}
 use Rattle.session.proofs.Buffers.{cut-fits}
 
-cut-behind : (bs : List ℕ) → drop (taken (cut bs .lines)) bs ≡ cut bs .rest
+pub cut-behind : (bs : List ℕ) → drop (taken (cut bs .lines)) bs ≡ cut bs .rest
 unfolding cut taken
 cut-behind [] = refl
 cut-behind (b ∷ bs) = go (eqb b lineFeed) refl (cut-behind bs)
@@ -44,5 +47,19 @@ module _ (room : ℕ) (input : List ℕ) (enough : answerLength * length input �
       take-all (room / answerLength) (cut input .lines) (omega arith)
 
   pub left-all : pieceLeft room input ≡ kept (cut input .rest)
-  unfolding pieceLeft
-  left-all = rw (fitting-all, cut-behind input)
+  unfolding pieceLeft kept
+  left-all = rw (fitting-all, cut-behind input) (go (ltb (room - answerLength * length (cut input .lines)) answerLength) refl)
+    where
+      go : (b : Bool) → ltb (room - answerLength * length (cut input .lines)) answerLength ≡ b
+          → cond b (cut input .rest) (take mostKept (cut input .rest)) ≡ take mostKept (cut input .rest)
+      go true e =
+          let few = lines-few (cut input .lines) in
+          let fits = cut-fits input in
+          let none = ltb-true (room - answerLength * length (cut input .lines)) answerLength e in
+          sym (take-all mostKept (cut input .rest) (omega arith))
+      go false e = refl
+
+  -- what is kept then, as a caller asks
+  pub kept-small : (s : Standing) (p : PieceEnd) → p ≡ pieceResult s room input → p .kept ≤ mostKept
+  unfolding pieceResult kept
+  kept-small s p e = rw (e, left-all, length-take) (omega arith)

@@ -2,16 +2,16 @@
 use Prim.Native.Nat.{ℕ}
 use mathlib.Core.Path.{_≡_, refl, sym, ap, _∙_}
 use mathlib.Core.List.{List, [], _∷_}
-use lib.ListN.{length, take, drop}
+use lib.ListN.{length, drop}
 use native.Mathlib.Omega.{arith}
 use Rattle.lines.specs.declared.ends.Line.{Line}
 use Rattle.lines.specs.declared.ends.Line.the-variants.{Whole, TooLong, Unended, Nothing}
-use Rattle.lines.specs.Ends.{lineAt, longest, part}
+use Rattle.lines.specs.Ends.{lineAt}
 use Rattle.lines.specs.Reading.{placeAfter}
 use Rattle.session.specs.Lines.{cut}
 use Rattle.session.specs.Walk.{Gives, GivesNone, Walks}
 use Rattle.session.specs.Theorems.{ReaderWalks}
-use Rattle.session.proofs.NextLines.{First, Found, found}
+use Rattle.session.proofs.NextLines.{Found, found}
 
 abbrev firstOf : List (List ℕ) → List ℕ
 firstOf [] = []

@@ -9,7 +9,7 @@ use Rattle.bench_lines.specs.Start.{start}
 use Rattle.session.specs.Lines.{cut}
 use Rattle.session.specs.Walk.{Walks}
 use Rattle.session.specs.Feed.{pieceAnswers}
-use Rattle.session.specs.Run.{run, joined, runParts}
+use Rattle.session.specs.Run.{run, runFrom, joined, runParts}
 use Rattle.session.specs.Pieces.{pieceLeft, pieceResult}
 
 -- one reader, put at the start of a log and asked for its next line again and again, gives the lines of the log in turn
@@ -27,3 +27,9 @@ PieceIsPart =
     (s : Standing) (room : ℕ) (front part : List ℕ) (parts : List (List ℕ)) → answerLength * length (front ++ part) ≤ room
     → runParts s front (part ∷ parts)
     ≡ pieceAnswers s room (front ++ part) ++ runParts (pieceResult s room (front ++ part) .standing) (pieceLeft room (front ++ part)) parts
+
+-- however little room there is, no line is lost: the run goes on behind the answers that had room, over what `piece` leaves and then what follows
+abbrev pub NothingLost : Type 0
+NothingLost =
+    (s : Standing) (room : ℕ) (input more : List ℕ)
+    → runFrom s (input ++ more) ≡ pieceAnswers s room input ++ runFrom (pieceResult s room input .standing) (pieceLeft room input ++ more)

@@ -1,6 +1,9 @@
 -- Safety alone: what `piece` says that it wrote lies within the output, and it keeps no more bytes of a line than it may.
 use borrow.Author.Needs.{needs}
-use Rattle.session.proofs.Buffers.{kept-small, written-within}
+use native.Mathlib.Omega.{arith}
+use lib.ListN.{length-take}
+use Rattle.session.proofs.Buffers.{written-within}
+use Rattle.session.proofs.Rooms.{kept-small}
 use Rattle.cases.proofs.feed.piece_answered.Statement.{statement}
 use Rattle.cases.proofs.feed.piece_answered.Tie as tie
 
@@ -41,7 +44,7 @@ same-length-2 : tie.Need-same-length-2
 same-length-2 c = search needs
 
 returns : tie.Need-returns
-returns c = kept-small _ _ _ _ (c .before .before .before .before .before .before .before .piece .ensures .0)
+returns c = kept-small _ _ (rw length-take (omega arith)) _ _ (c .before .before .before .before .before .before .before .piece .ensures .0)
 
 pub piece-answered-spec : {M : Type 1} → statement M
 piece-answered-spec =

@@ -1,6 +1,6 @@
 -- The lines end within the piece, and what they leave is moved to the front.
 use borrow.Author.Needs.{needs}
-use Rattle.session.proofs.Buffers.{next-within, answers-there, front-fits, left-moved, piece-result}
+use Rattle.session.proofs.Buffers.{next-within, lines-fit, answers-there, front-fits, left-moved, piece-result}
 use Rattle.session.proofs.pieces.piece.Statement.{statement}
 use Rattle.session.proofs.pieces.piece.Tie as tie
 
@@ -19,18 +19,20 @@ part-feed-end c = search needs
 feed-requires : tie.Need-feed-requires
 feed-requires c κs = search needs
 
-sub-lesser : tie.Need-sub-lesser
-sub-lesser c =
+sub-bytes-kept : tie.Need-sub-bytes-kept
+sub-bytes-kept c =
     let lines = c .before .before in
     next-within _ _ _ _ _ (lines .before .before .before .before .lesser .ensures) _ (lines .feed .ensures .0)
 
-lesser-requires-2 : tie.Need-lesser-requires-2
-lesser-requires-2 c κs = search needs
+bytes-kept-requires : tie.Need-bytes-kept-requires
+bytes-kept-requires c κs =
+    let lines = c .before .before in
+    lines-fit _ _ _ _ _ (lines .before .before .before .before .lesser .ensures) _ (lines .feed .ensures .0)
 
 to-front-requires : tie.Need-to-front-requires
 to-front-requires c κs =
     let lines = c .before .before .before .before in
-    let w = front-fits _ _ _ _ _ (lines .before .before .before .before .lesser .ensures) _ (lines .feed .ensures .0) _ (c .before .lesser2 .ensures) in
+    let w = front-fits _ _ _ _ _ (lines .before .before .before .before .lesser .ensures) _ (lines .feed .ensures .0) _ (c .before .bytes-kept .ensures) in
     search needs
 
 same-length : tie.Need-same-length
@@ -42,7 +44,7 @@ same-length-2 c = search needs
 returns : tie.Need-returns
 returns c =
     let moved = c .before .before .before in
-    let kept = moved .before .before .lesser2 .ensures in
+    let kept = moved .before .before .bytes-kept .ensures in
     let lines = moved .before .before .before .before .before in
     let to = lines .before .before .before .before .lesser .ensures in
     let came = lines .feed .ensures .0 in (
@@ -59,8 +61,8 @@ piece-spec =
     part-feed-start
     part-feed-end
     feed-requires
-    sub-lesser
-    lesser-requires-2
+    sub-bytes-kept
+    bytes-kept-requires
     to-front-requires
     same-length
     same-length-2
