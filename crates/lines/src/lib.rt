@@ -5,6 +5,7 @@ mod reader;
 pub use ends::LONGEST;
 pub use ends::Line;
 pub use reader::Reader;
+pub use reader::behind_lines;
 pub use reader::left;
 pub use reader::line_from;
 pub use reader::next_line;

@@ -6,7 +6,7 @@ use crate::ends::rest_at;
 ghost use mathlib.Core.Path.{_≡_};
 ghost use lib.ListN.{drop};
 ghost use Rattle.lines.specs.Ends.{lineAt};
-ghost use Rattle.lines.specs.Reading.{placeAfter};
+ghost use Rattle.lines.specs.Reading.{placeAfter, behindLines};
 
 // The log, and the place where its next line begins.
 pub struct Reader<'a> {
@@ -45,4 +45,15 @@ pub fn line_from(s: &[u8], at: usize) -> Line
 {
     let mut reader = reader_of(s, at);
     next_line(&mut reader)
+}
+
+// What is left of a log behind its first n lines, its empty end where it has fewer: one reader walks over them.
+pub fn behind_lines<'a>(log: &'a [u8], n: usize) -> &'a [u8]
+    ensures { λ s. ⌜ now s ≡ behindLines n (now (log .entry)) ⌝ }
+{
+    let mut reader = reader_of(log, 0);
+    for _ in 0..n {
+        next_line(&mut reader);
+    }
+    left(reader)
 }
