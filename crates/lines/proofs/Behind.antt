@@ -33,6 +33,6 @@ module _ (s : List ℕ) (at : ℕ) where
       go false false true e f = behind
       go false false false e f = behind
 
--- so one more line that is walked over is one fewer that is still to be
-pub behind-more : (s rest : List ℕ) (t at next : ℕ) → next ≡ placeAfter s (lineAt s at) → behindLines (suc t) (drop at s) ≡ rest → behindLines t (drop next s) ≡ rest
-behind-more s rest t at next e k = ap (behindLines t) (ap (λ (p : ℕ). drop p s) e ∙ behind-line s at) ∙ k
+-- behind one line more that is walked over, one fewer is still to be walked over
+pub behind-more : (t : ℕ) (ahead next rest : List ℕ) → next ≡ behindLine ahead → behindLines (suc t) ahead ≡ rest → behindLines t next ≡ rest
+behind-more t ahead next rest e k = ap (behindLines t) e ∙ k

@@ -50,11 +50,12 @@ use denote.Triple.Table.{entered, cited}
 use denote.Triple.Walked.{says, Stays, stay-none, stay-none-slice, walkOf, goes-none, goes-none-slice, Walks, ends-at, walked, walk-meets}
 use denote.Exit.{yes}
 use Rattle.lines.specs.Ends.{lineAt}
-use Rattle.lines.specs.Reading.{placeAfter, behindLines}
+use Rattle.lines.specs.Reading.{placeAfter, behindLine, behindLines}
+use Rattle.lines.specs.declared.ends.Line.{Line}
 use Rattle.lines.specs.declared.reader.Reader.{Reader}
-use Rattle.lines.proofs.Behind.{behind-more}
+use Rattle.lines.proofs.Behind.{behind-line, behind-more}
 use Rattle.lines.proofs.Lent.{R, Cell, lies-in, lies-out}
-use Rattle.lines.proofs.Asks.{NextLine, asks-next}
+use Rattle.lines.proofs.Asks.{NextLine, Said, asks-next}
 use Rattle.lines.proofs.reader.Reader as T
 use Rattle.lines.proofs.reader.Reader.Laws as T′
 use Rattle.lines.proofs.ends.Line as S
@@ -211,6 +212,10 @@ module _ {M : Type 1} (𝓤 : URA M) (H : Heap 𝓤) (A : Atoms 𝓤) (W : Given
       next-fits : (t i : ℕ) → i + suc t ≡ n → i + 1 < 2 ^ 64
       next-fits t i e = omega arith
 
+      moved : (r : Reader) (line : Line) (w : Reader) → r .log ≡ s → Said r line w → drop-to (w .at) (now s) ≡ behindLine (drop-to (r .at) (now s))
+      moved r line w k e =
+          ap (λ (p : ℕ). drop-to p (now s)) (e .2 ∙ ap (λ (x : RefT (List ℕ)). placeAfter (now x) (lineAt (now x) (r .at))) k) ∙ behind-line (now s) (r .at)
+
       -- the turn that leaves the loop, with the rest of the body, and a turn that walks over a line
       turn-at : (t i : ℕ) (r : Reader) → Facts t i r
           → Sq W (‵ (mem (R 𝓤 H A W κ q l₃) .lies r l₃ 0) ∷ ‵ (fat fullShare word l₅ 0 (vint w64 i)) ∷ Frame) (runs C Λ En pieces.turn-1 (anyQ (afterTurn 𝓤 H (Below 𝓤 H A _<_ Inv t) After)))
@@ -251,7 +256,7 @@ module _ {M : Type 1} (𝓤 : URA M) (H : Heap 𝓤) (A : Atoms 𝓤) (W : Given
           assigns-last ! (bin ! (load ! (from ! (stop !)) (look ! 3 refl)) (lit ! tt) (record { fits = next-fits t i (f .2) })) (from ! (stop !)) (store ! 3 refl (tt, record { fits = next-fits t i (f .2) })) $
           forget ! 5 refl $ forget ! 7 refl $ forget ! 9 refl $ drop ! $ move ! (0 ∷ 2 ∷ []) $ join ! $
           use1 W (Ahead t)
-          (holds t (i + 1) w (e .1 ∙ f .0, behind-more (now s) found t (r .at) (w .at) (e .2 ∙ ap (λ (x : RefT (List ℕ)). placeAfter (now x) (lineAt (now x) (r .at))) (f .0)) (f .1), omega arith)) $
+          (holds t (i + 1) w (e .1 ∙ f .0, behind-more t (drop-to (r .at) (now s)) (drop-to (w .at) (now s)) found (moved r line w (f .0) e) (f .1), omega arith)) $
           again ! _<_ Inv (suc t) t (lt-suc-self t)))
 
       turn : (t : ℕ) → Sq W (Inv t) (runs C Λ En pieces.turn-1 (anyQ (afterTurn 𝓤 H (Below 𝓤 H A _<_ Inv t) After)))
