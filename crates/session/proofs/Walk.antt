@@ -1,16 +1,23 @@
 -- One reader gives the lines of a log in turn: at each place the first of those that are cut from there on, which is what the run rests on too.
-use Prim.Native.Nat.{ℕ}
+use Prim.Native.Nat.{ℕ, zero, suc, _+_, _<_}
 use mathlib.Core.Path.{_≡_, refl, sym, ap, _∙_}
 use mathlib.Core.List.{List, [], _∷_}
-use lib.ListN.{length, drop}
+use mathlib.Core.Bool.{Bool, true, false}
+use lib.Dec.{eqb}
+use lib.ListN.{length, drop, drop-of-length-le}
+use lib.Seq.{drop-drop}
 use native.Mathlib.Omega.{arith}
+use borrow.Author.Tests.{eqb-true, eqb-false}
+use Rattle.rules.specs.Queues.{before}
+use Rattle.rules.proofs.Retrieve.{before-le}
 use Rattle.lines.specs.declared.ends.Line.{Line}
 use Rattle.lines.specs.declared.ends.Line.the-variants.{Whole, TooLong, Unended, Nothing}
-use Rattle.lines.specs.Ends.{lineAt}
-use Rattle.lines.specs.Reading.{placeAfter}
-use Rattle.session.specs.Lines.{cut}
+use Rattle.lines.specs.Ends.{lineFeed, lineAt}
+use Rattle.lines.specs.Reading.{placeAfter, behindLine}
+use Rattle.session.specs.Lines.{Cut, cut}
 use Rattle.session.specs.Walk.{Gives, GivesNone, Walks}
-use Rattle.session.specs.Theorems.{ReaderWalks}
+use Rattle.session.specs.Theorems.{ReaderWalks, OtherLinesLeft}
+use Rattle.session.proofs.Cuts.{cut-ended, cut-unended}
 use Rattle.session.proofs.NextLines.{Found, found}
 
 abbrev firstOf : List (List ℕ) → List ℕ
@@ -45,3 +52,30 @@ module _ (log : List ℕ) where
 
 pub reader-walks : ReaderWalks
 reader-walks log = walk log (cut log .lines) 0 refl
+
+-- ---- what is left of a log behind the lines that a reader has walked over
+
+module _ (log : List ℕ) where
+  abbrev first : ℕ
+  first = before lineFeed log
+
+  -- behind the first line are the other lines
+  one-less : cut (behindLine log) .lines ≡ drop 1 (cut log .lines)
+  unfolding cut
+  one-less = go (eqb first (length log)) refl
+    where
+      ended : first < length log → cut (behindLine log) .lines ≡ drop 1 (cut log .lines)
+      ended h = let place : first + 1 ≡ suc first = omega arith in rw place (sym (ap (λ (c : Cut). drop 1 (c .lines)) (cut-ended log h)))
+
+      unended : first ≡ length log → cut (behindLine log) .lines ≡ drop 1 (cut log .lines)
+      unended h = rw (drop-of-length-le log {i = first + 1} (omega arith), cut-unended log h)
+
+      go : (b : Bool) → eqb first (length log) ≡ b → cut (behindLine log) .lines ≡ drop 1 (cut log .lines)
+      go true e = unended (eqb-true first (length log) e)
+      go false e = ended (omega (arith, before-le lineFeed log, eqb-false first (length log) e))
+
+pub other-lines-left : OtherLinesLeft
+other-lines-left zero log = refl
+other-lines-left (suc n) log =
+    let more : 1 + n ≡ suc n = omega arith in
+    other-lines-left n (behindLine log) ∙ ap (drop n) (one-less log) ∙ drop-drop n 1 (cut log .lines) ∙ ap (λ (k : ℕ). drop k (cut log .lines)) more

@@ -2,7 +2,8 @@
 use Prim.Native.Nat.{ℕ, _*_, _≤_}
 use mathlib.Core.Path.{_≡_}
 use mathlib.Core.List.{List, [], _∷_, _++_}
-use lib.ListN.{length}
+use lib.ListN.{length, drop}
+use Rattle.lines.specs.Reading.{behindLines}
 use Rattle.frames.specs.Answers.{answerLength}
 use Rattle.bench_lines.specs.declared.start.Standing.{Standing}
 use Rattle.bench_lines.specs.Start.{start}
@@ -15,6 +16,10 @@ use Rattle.session.specs.Pieces.{pieceLeft, pieceResult}
 -- one reader, put at the start of a log and asked for its next line again and again, gives the lines of the log in turn
 abbrev pub ReaderWalks : Type 0
 ReaderWalks = (log : List ℕ) → Walks log 0 (cut log .lines)
+
+-- what is left of a log behind its first n lines has the lines of the log without the first n
+abbrev pub OtherLinesLeft : Type 0
+OtherLinesLeft = (n : ℕ) (log : List ℕ) → cut (behindLines n log) .lines ≡ drop n (cut log .lines)
 
 -- however the input is cut into parts, the run over the parts writes the same bytes as the run over the whole
 abbrev pub PartsAgree : Type 0
