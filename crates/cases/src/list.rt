@@ -1,6 +1,7 @@
 // The list of cases, line by line.
 use super::feed::run;
 use super::input::laid;
+use super::left::left;
 use super::words::size_of;
 use bytes::scan::find;
 use libc::STDOUT_FILENO;
@@ -23,7 +24,7 @@ fn write_pieces(pieces: usize) {
 }
 
 // The place behind the space at `at`, where there is one.
-fn behind(at: usize, end: usize) -> usize
+pub(crate) fn behind(at: usize, end: usize) -> usize
     requires { ⌜ at ≤ end ⌝ }
     ensures { λ r. ⌜ r ≤ end ⌝ }
 {
@@ -44,7 +45,8 @@ fn case(text: &[u8]) {
     write_pieces(run(&input[0..n], size));
 }
 
-// A line of the list. A heading is written as it is; an empty line and a remark, which starts with `//`, are not.
+// A line of the list. A heading is written as it is; an empty line and a remark, which starts with `//`, are not. A case starts with a
+// number, and what is to be left of an input with the word `left`.
 fn played(text: &[u8]) {
     if text.len() == 0 {
         return;
@@ -53,6 +55,8 @@ fn played(text: &[u8]) {
     if first == b'#' {
         io::write_all(STDOUT_FILENO, text);
         io::write_all(STDOUT_FILENO, b"\n");
+    } else if first == b'l' {
+        left(text);
     } else if first != b'/' {
         case(text);
     }
