@@ -253,7 +253,8 @@ module _ {M : Type 1} (𝓤 : URA M) (H : Heap 𝓤) (A : Atoms 𝓤) (W : Given
           -- [what the line owns; the Reader; the token; _5; what s owns; _8; …; room for _7; …; _6; …; …; room for _4; …; …; _2; …; _1; …; room for _0; …]
           peeks ! S.the-row (Is S.the-row) (shows 𝓤 H A S.the-row) line (u ∷ []) (λ is.
           land ! (from ! (stop !)) (init ! 7 refl (EL.lawful S.the-type S′.the-laws 𝓤 H A W tt .typed line _ is .0)) $
-          assigns-last ! (bin ! (load ! (from ! (stop !)) (look ! 3 refl)) (lit ! tt) (record { fits = next-fits t i (f .2) })) (from ! (stop !)) (store ! 3 refl (tt, record { fits = next-fits t i (f .2) })) $
+          assigns-last ! (bin ! (load ! (from ! (stop !)) (look ! 3 refl)) (lit ! tt) (record { fits = next-fits t i (f .2) }))
+          (from ! (stop !)) (store ! 3 refl (tt, record { fits = next-fits t i (f .2) })) $
           forget ! 5 refl $ forget ! 7 refl $ forget ! 9 refl $ drop ! $ move ! (0 ∷ 2 ∷ []) $ join ! $
           use1 W (Ahead t)
           (holds t (i + 1) w (e .1 ∙ f .0, behind-more t (drop-to (r .at) (now s)) (drop-to (w .at) (now s)) found (moved r line w (f .0) e) (f .1), omega arith)) $
