@@ -1,11 +1,11 @@
 -- Laws of what is left behind a line: a reader that has moved behind a line has ahead of it what stood behind the first line of what it had ahead.
-use Prim.Native.Nat.{ℕ, suc, _+_}
+use Prim.Native.Nat.{ℕ, zero, suc, _+_, _≤_}
 use mathlib.Core.Path.{_≡_, refl, sym, ap, _∙_}
 use mathlib.Core.Bool.{Bool, true, false, cond}
-use mathlib.Core.List.{List}
+use mathlib.Core.List.{List, [], _∷_}
 use native.Mathlib.Omega.{arith}
 use lib.Dec.{eqb, ltb}
-use lib.ListN.{length, drop, drop-of-length-le}
+use lib.ListN.{length, drop, length-drop, drop-of-length-le}
 use lib.Seq.{drop-length, drop-drop}
 use borrow.Author.Tests.{eqb-true}
 use Rattle.lines.specs.declared.ends.Line.the-variants.{Whole, TooLong, Unended, Nothing}
@@ -36,3 +36,12 @@ module _ (s : List ℕ) (at : ℕ) where
 -- behind one line more that is walked over, one fewer is still to be walked over
 pub behind-more : (t : ℕ) (ahead next rest : List ℕ) → next ≡ behindLine ahead → behindLines (suc t) ahead ≡ rest → behindLines t next ≡ rest
 behind-more t ahead next rest e k = ap (behindLines t) e ∙ k
+
+-- behind as many lines as there are bytes nothing is left, nor behind more
+behind-all : (n : ℕ) (log : List ℕ) → length log ≤ n → behindLines n log ≡ []
+behind-all zero [] h = refl
+behind-all zero (b ∷ bs) h = absurd (omega arith)
+behind-all (suc n) log h = behind-all n (behindLine log) (rw length-drop (omega arith))
+
+pub behind-past : (n : ℕ) (log : List ℕ) → length log ≤ n → behindLines (length log) log ≡ behindLines n log
+behind-past n log h = behind-all (length log) log (omega arith) ∙ sym (behind-all n log h)

@@ -47,8 +47,8 @@ pub fn line_from(s: &[u8], at: usize) -> Line
     next_line(&mut reader)
 }
 
-// What is left of a log behind its first n lines, its empty end where it has fewer: one reader walks over them.
-pub fn behind_lines<'a>(log: &'a [u8], n: usize) -> &'a [u8]
+// What is left of a log behind its first n lines: one reader walks over them.
+fn walked_over<'a>(log: &'a [u8], n: usize) -> &'a [u8]
     ensures { λ s. ⌜ now s ≡ behindLines n (now (log .entry)) ⌝ }
 {
     let mut reader = reader_of(log, 0);
@@ -56,4 +56,15 @@ pub fn behind_lines<'a>(log: &'a [u8], n: usize) -> &'a [u8]
         next_line(&mut reader);
     }
     left(reader)
+}
+
+// What is left of a log behind its first n lines, its empty end where it has fewer. A log has no more lines than bytes, so that no n makes
+// the walk longer.
+pub fn behind_lines<'a>(log: &'a [u8], n: usize) -> &'a [u8]
+    ensures { λ s. ⌜ now s ≡ behindLines n (now (log .entry)) ⌝ }
+{
+    if log.len() < n {
+        return walked_over(log, log.len());
+    }
+    walked_over(log, n)
 }
