@@ -1,5 +1,4 @@
-/* T-04 in calls: a region counts its entries. What the counts look like in a block is in blocks.c. */
-#include <string.h>
+/* T-04 and T-06 in calls: a region counts its entries, and an EXIT that was never entered is refused. What the counts look like in a block is in blocks.c. */
 #include "expect.h"
 
 /* "Our record routine calls a helper that enters and exits the same region": the region is still held, and nobody sees half a record.
@@ -24,15 +23,6 @@ static void record_routine(void)
     TAKES(2, 0, 3, 2, 12, 3);
     CALL(2, END, 0, 0, 0, 0, 0);
     group_was_right("the record routine and its helper");
-}
-
-/* An EXIT that is accepted and leaves every byte as it was. */
-static void exit_of_none(const char *where, unsigned caller, unsigned region)
-{
-    uint8_t before[SIZE];
-    memcpy(before, block, SIZE);
-    call_at(where, caller, TANKWESHO_EXIT, region, 0, 0, 0, caller, 0, 0);
-    same_bytes(where, before, block, SIZE);
 }
 
 static void deepest(void)
@@ -62,19 +52,24 @@ static void deepest(void)
     group_was_right("255 entries of a region");
 }
 
-/* "nothing changes if the caller doesn't hold it": where it holds none, where it holds another, and behind the matching EXIT. */
+/* T-06: "EXIT of a region that the caller doesn't hold now gets 23 .. and changes nothing": where it holds none, where it holds another, and
+   behind the matching EXIT. That no byte changes is seen by call_at. */
 static void not_held(void)
 {
     fresh_example();
-    exit_of_none(HERE, 0, 1);
+    CALL(0, EXIT, 1, 0, 0, 23, 0);
+    /* 14, 13 and 12 are checked first. */
+    CALL(0, EXIT, 2, 0, 0, 14, 0);
+    CALL(OUTSIDE, EXIT, 1, 0, 0, 13, 0);
+    CALL(1, EXIT, 1, 0, 0, 12, 0);
     CALL(0, START, 2, 0, 0, 0, 2);
     CALL(2, ENTER, 0, 0, 0, 0, 2);
     CALL(2, ENTER, 0, 0, 0, 0, 2);
-    exit_of_none(HERE, 2, 1);
+    CALL(2, EXIT, 1, 0, 0, 23, 2);
     CALL(2, EXIT, 0, 0, 0, 0, 2);
     CALL(2, END, 0, 0, 0, 16, 2);
     CALL(2, EXIT, 0, 0, 0, 0, 2);
-    exit_of_none(HERE, 2, 0);
+    CALL(2, EXIT, 0, 0, 0, 23, 2);
     CALL(2, END, 0, 0, 0, 0, 0);
     group_was_right("EXIT of a region that the caller doesn't hold");
 }

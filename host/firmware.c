@@ -13,10 +13,10 @@ static void names(void)
     static const uint8_t statuses[] = {TANKWESHO_DONE, TANKWESHO_WAITS, TANKWESHO_NOT_A_TABLE, TANKWESHO_NO_OPERATION, TANKWESHO_NOT_ELECTED,
                                        TANKWESHO_BARRED, TANKWESHO_MISSING, TANKWESHO_WRONG_STATE, TANKWESHO_IN_REGION,
                                        TANKWESHO_QUEUE_AT_BOUND, TANKWESHO_NONE_FITS, TANKWESHO_BAD_OPERATOR, TANKWESHO_BAD_CONFIGURATION,
-                                       TANKWESHO_MALFORMED_LINE, TANKWESHO_ENTERED_TOO_OFTEN};
+                                       TANKWESHO_MALFORMED_LINE, TANKWESHO_ENTERED_TOO_OFTEN, TANKWESHO_NOT_HELD};
     same_bytes(HERE, (const uint8_t[]){0, 1, 2, 3, 4, 5, 6, 7, 8, 9, 10, 11, 12}, operations, sizeof operations);
     same_bytes(HERE, (const uint8_t[]){0, 1, 2, 3, 4}, queries, sizeof queries);
-    same_bytes(HERE, (const uint8_t[]){0, 1, 10, 11, 12, 13, 14, 15, 16, 17, 18, 19, 20, 21, 22}, statuses, sizeof statuses);
+    same_bytes(HERE, (const uint8_t[]){0, 1, 10, 11, 12, 13, 14, 15, 16, 17, 18, 19, 20, 21, 22, 23}, statuses, sizeof statuses);
     group_was_right("the header's names");
 }
 

@@ -28,7 +28,7 @@ enum tankwesho_operation {
     TANKWESHO_WAIT = 4,     /* a event list, b operator */
     TANKWESHO_CLEAR = 5,    /* a event list */
     TANKWESHO_ENTER = 6,    /* a region: its count goes one up, to 255 at most */
-    TANKWESHO_EXIT = 7,     /* a region: one down; at 0 it is free. Nothing if the caller doesn't hold it */
+    TANKWESHO_EXIT = 7,     /* a region: one down; at 0 it is free */
     TANKWESHO_SEND = 8,     /* a queue, b element, c criterion */
     TANKWESHO_RETRIEVE = 9, /* a queue, c criterion or TANKWESHO_LARGEST */
     TANKWESHO_ARM = 10,     /* a timer, b event, c delay */
@@ -54,7 +54,7 @@ enum tankwesho_state { TANKWESHO_STOPPED = 0, TANKWESHO_READY = 1, TANKWESHO_WAI
 #define TANKWESHO_LARGEST 16
 
 /* 0 and 1 are accepted. From 10 on a call is refused, and has changed nothing. Where several apply, the first in this order is given: 10,
-   11, 13, 12, 13 for a TICK by the elected task, 14, 19, 15, 16, 17, 18, 22. */
+   11, 13, 12, 13 for a TICK by the elected task, 14, 19, 15, 16, 17, 18, 22, 23. */
 enum tankwesho_status {
     TANKWESHO_DONE = 0,
     TANKWESHO_WAITS = 1,              /* a WAIT after which its caller waits */
@@ -70,7 +70,8 @@ enum tankwesho_status {
     TANKWESHO_BAD_OPERATOR = 19,      /* above 1 */
     TANKWESHO_BAD_CONFIGURATION = 20, /* tankwesho_fresh */
     TANKWESHO_MALFORMED_LINE = 21,    /* the bench's alone: no function here gives it */
-    TANKWESHO_ENTERED_TOO_OFTEN = 22  /* ENTER of a region that has been entered 255 times and not left */
+    TANKWESHO_ENTERED_TOO_OFTEN = 22, /* ENTER of a region that has been entered 255 times and not left */
+    TANKWESHO_NOT_HELD = 23           /* EXIT of a region that the caller doesn't hold */
 };
 
 /* What holds for all three functions.

@@ -22,6 +22,7 @@ pub enum Status {
     Configuration = 20,
     Malformed = 21,
     TooManyEntries = 22,
+    NotHeld = 23,
 }
 
 /// One call: who, what, and three numbers, of which the operation reads those it needs.

@@ -254,7 +254,7 @@ impl Table {
     fn exit(&mut self, caller: u8, number: u32) -> Outcome {
         let region = self.region_mut(number)?;
         if region.holder != Some(caller) {
-            return Ok(DONE);
+            return Err(Status::NotHeld);
         }
         if region.entries > 1 {
             region.entries -= 1;

@@ -35,7 +35,7 @@ impl Mix {
     }
 }
 
-const ALL_STATUSES: [Status; 15] = [
+const ALL_STATUSES: [Status; 16] = [
     Status::Done,
     Status::Waits,
     Status::NotValid,
@@ -51,6 +51,7 @@ const ALL_STATUSES: [Status; 15] = [
     Status::Configuration,
     Status::Malformed,
     Status::TooManyEntries,
+    Status::NotHeld,
 ];
 
 /// The statuses that an operation can get on a valid table: document 01's list, read by operation.
@@ -75,7 +76,8 @@ fn reachable(operation: Option<Operation>) -> Vec<Status> {
         Enter => statuses.push(TooManyEntries),
         Send => statuses.push(QueueFull),
         Retrieve => statuses.push(NothingFits),
-        Clear | Exit | Tick => {}
+        Exit => statuses.push(NotHeld),
+        Clear | Tick => {}
     }
     statuses
 }

@@ -214,6 +214,20 @@ fn t04_a_region_is_free_only_at_the_matching_exit() {
     assert_eq!(short(&mut table, 0, EXIT, 0, 0, 0), (0, 2));
 }
 
+#[test]
+fn t06_an_exit_that_was_never_entered_gets_23() {
+    let mut table = fresh();
+    assert_eq!(short(&mut table, 0, EXIT, 0, 0, 0), (23, 0));
+    assert_eq!(short(&mut table, 0, EXIT, 2, 0, 0), (14, 0));
+    short(&mut table, 0, ENTER, 0, 0, 0);
+    let held = table.clone();
+    assert_eq!(short(&mut table, 0, EXIT, 1, 0, 0), (23, 0));
+    assert_eq!(short(&mut table, 1, EXIT, 0, 0, 0), (12, 0));
+    assert_eq!(table, held);
+    assert_eq!(short(&mut table, 0, EXIT, 0, 0, 0), (0, 0));
+    assert_eq!(short(&mut table, 0, EXIT, 0, 0, 0), (23, 0));
+}
+
 fn answered(input: &str) -> String {
     let mut output = Vec::new();
     run(input.as_bytes(), &mut output).unwrap();

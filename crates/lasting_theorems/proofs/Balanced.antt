@@ -91,7 +91,9 @@ module _ (t : Table) (v : valid t ≡ true) (task r n : ℕ) (is : regionOf t r 
 
       exit-accepted : c .operation ≡ EXIT → refusal t c ≡ 0
       unfolding refusal reasons missing wrongState leaves
-      exit-accepted o = simp (v, o, mine, inner, there)
+      exit-accepted o =
+          let own : eqb (getD (t .holder) (c .a) 0) (suc (c .caller)) ≡ true = rw (at, by, ap (λ x. x .holder) is) (eq-eqb (suc task) (suc task) refl) in
+          simp (v, o, mine, inner, there, own)
 
       -- and change that region alone: the task is elected still
       alone : (m : ℕ) → step t c .table ≡ settled (withRegion r (enteredBy task m) t) → step t c .table ≡ withRegion r (enteredBy task m) t
@@ -108,14 +110,14 @@ module _ (t : Table) (v : valid t ≡ true) (task r n : ℕ) (is : regionOf t r 
       unfolding step effect
       exit-table o m some e =
           alone m
-          (simp (exit-accepted o, o, by, at) (ap (λ x. settled (withRegion r x t)) (ap (exited task) (is ∙ ap (enteredBy task) e) ∙ exit-keeps task m some)))
+          (simp (exit-accepted o, o, by, at) (ap (λ x. settled (withRegion r x t)) (ap exited (is ∙ ap (enteredBy task) e) ∙ exit-keeps task m some)))
 
       -- but the EXIT of the only entry, which frees it
       exit-free : c .operation ≡ EXIT → n ≡ 1 → regionOf (step t c .table) r ≡ freeRegion
       unfolding step effect
       exit-free o e =
           simp (exit-accepted o, o, by, at)
-          (region-same r (exited task (regionOf t r)) t (parts-of t v .shape) (h .room) ∙ ap (exited task) (is ∙ ap (enteredBy task) e) ∙ exit-frees task)
+          (region-same r (exited (regionOf t r)) t (parts-of t v .shape) (h .room) ∙ ap exited (is ∙ ap (enteredBy task) e) ∙ exit-frees task)
 
     -- every other call leaves the region as it is
     abbrev Left : ℕ → Effect → Type 0
@@ -136,7 +138,7 @@ module _ (t : Table) (v : valid t ≡ true) (task r n : ℕ) (is : regionOf t r 
     enter-leaves o x y = elsewhere (entered (c .caller)) (o .barred) (o .not-elected) x
 
     exit-leaves : Left EXIT (byOperation nothing EXIT operations t c)
-    exit-leaves o x y = elsewhere (exited (c .caller)) (o .barred) (o .not-elected) y
+    exit-leaves o x y = elsewhere exited (o .barred) (o .not-elected) y
 
     tick-leaves : Left TICK (byOperation nothing TICK operations t c)
     unfolding ticked

@@ -1,5 +1,6 @@
 -- The proofs of what `specs/` states.
 pub mod Balanced
+pub mod Entered
 pub mod Lasting
 pub mod Delays
 pub mod Examples

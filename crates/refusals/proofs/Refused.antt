@@ -3,7 +3,7 @@
 use Prim.Native.Nat.{ℕ, _<_, _≤_}
 use mathlib.Core.Path.{_≡_, refl, sym, _∙_}
 use mathlib.Core.Logic.{_≢_}
-use mathlib.Core.Bool.{Bool, true, false, cond, _&&_}
+use mathlib.Core.Bool.{Bool, true, false, cond, not, _&&_}
 use mathlib.Core.List.{List, [], _∷_}
 use native.Mathlib.Omega.{arith}
 use lib.Dec.{eqb, ltb, leb}
@@ -14,9 +14,9 @@ use Rattle.rules.specs.declared.Table.{Table}
 use Rattle.rules.specs.declared.Call.{Call}
 use Rattle.rules.specs.Numbers.{queueRoom, WAIT, ENTER, EXIT, SEND, RETRIEVE, ARM, DISARM, TICK}
 use Rattle.rules.specs.Words.{isZero, every, Reason, when, first}
-use Rattle.rules.specs.Regions.{occupied}
+use Rattle.rules.specs.Regions.{occupied, heldBy}
 use Rattle.rules.specs.Queues.{noneFits}
-use Rattle.rules.specs.Tables.{boundOf, lengthOf, queueOf}
+use Rattle.rules.specs.Tables.{regionOf, boundOf, lengthOf, queueOf}
 use Rattle.rules.specs.Validity.{valid, countsInRange}
 use Rattle.rules.specs.Refusals.{missing, badOperator, othersAt, wrongState, leaves, entriesFull, reasons, refusal}
 use Rattle.rules.proofs.Bools.{given, or-left}
@@ -121,6 +121,7 @@ late t c =
     ∷ when 17 (eqb (c .operation) SEND && leb (boundOf t (c .a)) (length (queueOf t (c .a))))
     ∷ when 18 (eqb (c .operation) RETRIEVE && noneFits (c .c) (queueOf t (c .a)))
     ∷ when 22 (eqb (c .operation) ENTER && entriesFull (t .entries) (c .a))
+    ∷ when 23 (eqb (c .operation) EXIT && not (heldBy (c .caller) (regionOf t (c .a))))
     ∷ []
 
 refusal-is : (t : Table) (c : Call) (known : Bool) → known ≡ valid t → (early : ℕ) → early ≡ first (earlyReasons known (t .elected) c)
@@ -166,6 +167,7 @@ module _ (f : Front) (cs : List ℕ) (c : Call) (es : List ℕ) (v : valid (whol
           ne-eqb (c .operation) SEND (omega arith),
           ne-eqb (c .operation) RETRIEVE (omega arith),
           ne-eqb (c .operation) ENTER (omega arith),
+          ne-eqb (c .operation) EXIT (omega arith),
         )
         p
 
@@ -181,6 +183,7 @@ module _ (f : Front) (cs : List ℕ) (c : Call) (es : List ℕ) (v : valid (whol
           ← full-same t v c m,
           ← lacking-same t v c m,
           ne-eqb (c .operation) ENTER (omega arith),
+          ne-eqb (c .operation) EXIT (omega arith),
         )
         p
 

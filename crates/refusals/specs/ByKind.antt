@@ -1,12 +1,12 @@
 -- The reasons that a call can meet, by its kind, once its numbers stand for something: as the code tests them, over the arrays that it reads.
-use Prim.Native.Nat.{ℕ, _+_}
+use Prim.Native.Nat.{ℕ, suc, _+_}
 use mathlib.Core.Bool.{Bool, false, cond, not, _&&_}
 use mathlib.Core.List.{List, [], _∷_}
 use lib.Dec.{eqb, ltb, leb}
 use lib.ListN.{getD}
 use Rattle.rules.specs.declared.Timer.{Timer}
 use Rattle.rules.specs.declared.Call.{Call}
-use Rattle.rules.specs.Numbers.{queueRoom, WAIT, ENTER, SEND, RETRIEVE, TICK}
+use Rattle.rules.specs.Numbers.{queueRoom, WAIT, ENTER, EXIT, SEND, RETRIEVE, TICK}
 use Rattle.rules.specs.Words.{byOperation, Reason, when}
 use Rattle.rules.specs.Regions.{occupied}
 use Rattle.rules.specs.Queues.{firstPlace}
@@ -20,12 +20,17 @@ wrongTask states c =
     byOperation false (c .operation)
     (not (stoppedAt states (c .a)) ∷ stoppedAt states (c .a) ∷ false ∷ stoppedAt states (c .b) ∷ [])
 
+-- 23 by the holder's entry
+abbrev pub notHeld : List ℕ → Call → Bool
+notHeld holders c = eqb (c .operation) EXIT && not (eqb (getD holders (c .a) 0) (suc (c .caller)))
+
 abbrev pub taskReasons : Front → Call → List Reason
 taskReasons f c =
     when 19 (eqb (c .operation) WAIT && badOperator (c .b))
     ∷ when 15 (wrongTask (f .state) c)
     ∷ when 16 (leaves c && occupied (f .holder))
     ∷ when 22 (eqb (c .operation) ENTER && entriesFull (f .entries) (c .a))
+    ∷ when 23 (notHeld (f .holder) c)
     ∷ []
 
 -- 17 by the queue's length as it is stored

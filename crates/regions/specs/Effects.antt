@@ -5,11 +5,11 @@ use lib.Dec.{eqb}
 use Rattle.rules.specs.declared.Region.{Region}
 use Rattle.rules.specs.declared.Call.{Call}
 use Rattle.rules.specs.Numbers.{ENTER}
-use Rattle.rules.specs.Regions.{countedDown}
+use Rattle.rules.specs.Regions.{exited}
 
 -- a region after ENTER or EXIT by the task whose entry is `mine`; an accepted ENTER's count fits, so that the remainder changes nothing
 unfoldable pub regionAfter : Call → ℕ → Region → Region
 regionAfter c mine r =
     cond (eqb (c .operation) ENTER)
     (record { holder = mine; entries = (r .entries + 1) % 256 })
-    (cond (eqb (r .holder) mine) (countedDown r) r)
+    (exited r)

@@ -3,12 +3,12 @@ use rules::Call;
 use rules::ENTER;
 use rules::Region;
 ghost use mathlib.Core.Path.{_≡_};
-ghost use Rattle.rules.specs.Regions.{countedDown};
+ghost use Rattle.rules.specs.Regions.{exited};
 ghost use Rattle.regions.specs.Effects.{regionAfter};
 
 // One entry less, and free behind the first. A region that is not counted stays as it is.
-fn counted_down(r: Region) -> Region
-    ensures { λ r1. ⌜ r1 ≡ countedDown r ⌝ }
+fn exited(r: Region) -> Region
+    ensures { λ r1. ⌜ r1 ≡ exited r ⌝ }
 {
     if r.entries == 1 {
         return Region {
@@ -35,8 +35,5 @@ pub fn region_after(k: Call, mine: u8, r: Region) -> Region
             entries: std::num::wrapping_add_u8(r.entries, 1),
         };
     }
-    if r.holder == mine {
-        return counted_down(r);
-    }
-    r
+    exited(r)
 }

@@ -179,6 +179,6 @@ module _ (t : Table) (c : Call) where
 pub exit-by-regions : (t u : Table) (c : Call) → t .holder ≡ u .holder → t .entries ≡ u .entries
     → (exit t c .table .holder ≡ exit u c .table .holder) × (exit t c .table .entries ≡ exit u c .table .entries)
 exit-by-regions t u c p q = (
-  ap₂ (λ hs ns. set hs (c .a) (exited (c .caller) (record { holder = getD hs (c .a) 0; entries = getD ns (c .a) 0 }) .holder)) p q,
-  ap₂ (λ hs ns. set ns (c .a) (exited (c .caller) (record { holder = getD hs (c .a) 0; entries = getD ns (c .a) 0 }) .entries)) p q,
+  ap₂ (λ hs ns. set hs (c .a) (exited (record { holder = getD hs (c .a) 0; entries = getD ns (c .a) 0 }) .holder)) p q,
+  ap₂ (λ hs ns. set ns (c .a) (exited (record { holder = getD hs (c .a) 0; entries = getD ns (c .a) 0 }) .entries)) p q,
 )

@@ -58,16 +58,12 @@ entries-fit-both h n k = go (isZero h) (isZero n) refl refl
 -- ---- EXIT of one region
 
 module _ (task : ℕ) where
-  -- by the holder: one entry less, and "free only at the matching EXIT"
-  pub exit-frees : exited task (enteredBy task 1) ≡ freeRegion
-  exit-frees = rw (eq-eqb (suc task) (suc task) refl)
+  -- one entry less, and "free only at the matching EXIT"
+  pub exit-frees : exited (enteredBy task 1) ≡ freeRegion
+  exit-frees = refl
 
-  pub exit-keeps : (n : ℕ) → n ≢ 0 → exited task (enteredBy task (suc n)) ≡ enteredBy task n
-  exit-keeps n some = let e : suc n - 1 ≡ n = omega arith in rw (eq-eqb (suc task) (suc task) refl, ne-eqb (suc n) 1 (omega (arith, some)), e)
-
-  -- by another: "nothing changes if the caller doesn't hold it"
-  pub exit-leaves : (r : Region) → r .holder ≢ suc task → exited task r ≡ r
-  exit-leaves r n = rw (ne-eqb (r .holder) (suc task) n)
+  pub exit-keeps : (n : ℕ) → n ≢ 0 → exited (enteredBy task (suc n)) ≡ enteredBy task n
+  exit-keeps n some = let e : suc n - 1 ≡ n = omega arith in rw (ne-eqb (suc n) 1 (omega (arith, some)), e)
 
 -- ---- the columns
 

@@ -10,10 +10,10 @@ use borrow.Author.Tests.{eqb-false, not-true, not-false}
 use Rattle.rules.specs.declared.Table.{Table}
 use Rattle.rules.specs.declared.Call.{Call}
 use Rattle.rules.specs.Words.{isZero, every, Reason, first, None}
-use Rattle.rules.specs.Numbers.{WAIT, ENTER, SEND, RETRIEVE, TICK}
-use Rattle.rules.specs.Regions.{occupied}
+use Rattle.rules.specs.Numbers.{WAIT, ENTER, EXIT, SEND, RETRIEVE, TICK}
+use Rattle.rules.specs.Regions.{occupied, heldBy}
 use Rattle.rules.specs.Queues.{noneFits}
-use Rattle.rules.specs.Tables.{boundOf, queueOf}
+use Rattle.rules.specs.Tables.{regionOf, boundOf, queueOf}
 use Rattle.rules.specs.Validity.{valid}
 use Rattle.rules.specs.Refusals.{outsideBarred, notElected, tickByTask, missing, badOperator, wrongState, leaves, entriesFull, reasons, arrivedReasons, objectReasons, refusal}
 use Rattle.rules.proofs.Lists.{every-head, every-tail}
@@ -23,7 +23,7 @@ use Rattle.rules.proofs.Lists.{every-head, every-tail}
 abbrev statuses : List Reason → List ℕ
 statuses = map (λ r. r .status)
 
-pub call-order : (t : Table) (c : Call) → statuses (reasons t c) ≡ 10 ∷ 11 ∷ 13 ∷ 12 ∷ 13 ∷ 14 ∷ 19 ∷ 15 ∷ 16 ∷ 17 ∷ 18 ∷ 22 ∷ []
+pub call-order : (t : Table) (c : Call) → statuses (reasons t c) ≡ 10 ∷ 11 ∷ 13 ∷ 12 ∷ 13 ∷ 14 ∷ 19 ∷ 15 ∷ 16 ∷ 17 ∷ 18 ∷ 22 ∷ 23 ∷ []
 unfolding reasons
 call-order t c = refl
 
@@ -83,11 +83,12 @@ pub record Accepted (t : Table) (c : Call) : Type 0 where
   pub not-full : (eqb (c .operation) SEND && leb (boundOf t (c .a)) (length (queueOf t (c .a)))) ≡ false
   pub fits : (eqb (c .operation) RETRIEVE && noneFits (c .c) (queueOf t (c .a))) ≡ false
   pub may-enter : (eqb (c .operation) ENTER && entriesFull (t .entries) (c .a)) ≡ false
+  pub may-exit : (eqb (c .operation) EXIT && not (heldBy (c .caller) (regionOf t (c .a)))) ≡ false
 
 pub accepted-facts : (t : Table) (c : Call) → refusal t c ≡ 0 → Accepted t c
 unfolding reasons
 accepted-facts t c h =
-    let (a, (b, (d, (e, (z, (f, (g, (i, (j, (k, (l, (m, rest)))))))))))) = accepted-none t c .0 h in
+    let (a, (b, (d, (e, (z, (f, (g, (i, (j, (k, (l, (m, (n, rest))))))))))))) = accepted-none t c .0 h in
     record {
       is-valid = not-false (valid t) a;
       known = b;
@@ -101,4 +102,5 @@ accepted-facts t c h =
       not-full = k;
       fits = l;
       may-enter = m;
+      may-exit = n;
     }

@@ -276,7 +276,7 @@ wrappedRows = computed (λ does. every (right does atLastTick) wrapped) refl
 -- ---- T-04, sentence by sentence
 
 -- "Our record routine calls a helper that enters and exits the same region": it goes on protected, and the region is "free only at the
--- matching EXIT". Region 1 has a count of its own; EXIT of it once it is free changes nothing.
+-- matching EXIT". Region 1 has a count of its own.
 abbrev matching : List Run
 matching =
     run
@@ -284,7 +284,6 @@ matching =
     ∷ says 0 START 2 0 0 0 0
     ∷ says 0 ENTER 0 0 0 0 0
     ∷ says 0 ENTER 1 0 0 0 0
-    ∷ says 0 EXIT 1 0 0 0 0
     ∷ says 0 EXIT 1 0 0 0 0
     ∷ says 0 EXIT 0 0 0 0 0
     ∷ says 0 EXIT 0 0 0 0 2
@@ -319,3 +318,26 @@ wrongEntries = given 0 1 (says 0 ENTER 0 0 0 10 nobody ∷ []) ∷ given 1 0 (sa
 pub entryEnds : every (rightGiven step) (lastEntries ∷ wrongEntries) ≡ true
 unfolding computing rightGiven
 entryEnds = computed (λ does. every (rightGiven does) (lastEntries ∷ wrongEntries)) refl
+
+-- ---- T-06, sentence by sentence
+
+-- "EXIT of a region that the caller doesn't hold now gets 23": one never entered, and one left once too often. It "changes nothing": the region
+-- is entered and left as before, and one that is held stays held. A region that doesn't exist is 14 as before; a task that isn't elected and
+-- the outside hear that first.
+abbrev unentered : List Run
+unentered =
+    run (says 0 EXIT 0 0 0 23 0 ∷ says 0 EXIT 2 0 0 14 0 ∷ says 0 ENTER 0 0 0 0 0 ∷ says 0 EXIT 0 0 0 0 0 ∷ says 0 EXIT 0 0 0 23 0 ∷ [])
+    ∷ run
+    (says 0 ENTER 0 0 0 0 0
+    ∷ says 0 EXIT 1 0 0 23 0
+    ∷ says 0 START 2 0 0 0 0
+    ∷ says 2 EXIT 0 0 0 12 0
+    ∷ says outside EXIT 0 0 0 13 0
+    ∷ says 0 EXIT 0 0 0 0 2
+    ∷ says 2 EXIT 0 0 0 23 2
+    ∷ [])
+    ∷ []
+
+pub exitRows : rowsRight (unentered ∷ []) step ≡ true
+unfolding computing
+exitRows = computed (rowsRight (unentered ∷ [])) refl

@@ -61,9 +61,9 @@ clear t c = plain (changed (c .caller) (asCleared (c .a)) t)
 abbrev pub enter : Table → Call → Effect
 enter t c = plain (withRegion (c .a) (entered (c .caller) (regionOf t (c .a))) t)
 
--- the region "is free only at the matching EXIT"; "nothing changes if the caller doesn't hold it"
+-- the region "is free only at the matching EXIT"
 abbrev pub exit : Table → Call → Effect
-exit t c = plain (withRegion (c .a) (exited (c .caller) (regionOf t (c .a))) t)
+exit t c = plain (withRegion (c .a) (exited (regionOf t (c .a))) t)
 
 -- "element added"
 abbrev pub send : Table → Call → Effect

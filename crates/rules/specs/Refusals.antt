@@ -7,13 +7,13 @@ use lib.ListN.{getD, length}
 use Rattle.rules.specs.declared.Timer.{Timer}
 use Rattle.rules.specs.declared.Table.{Table}
 use Rattle.rules.specs.declared.Call.{Call}
-use Rattle.rules.specs.Numbers.{eventEnd, mostEntries, criterionEnd, largestPresent, timerRoom, longestDelay, outside, SIGNAL, WAIT, ENTER, SEND, RETRIEVE, TICK}
+use Rattle.rules.specs.Numbers.{eventEnd, mostEntries, criterionEnd, largestPresent, timerRoom, longestDelay, outside, SIGNAL, WAIT, ENTER, EXIT, SEND, RETRIEVE, TICK}
 use Rattle.rules.specs.Words.{isZero, byOperation, Reason, when, first}
 use Rattle.rules.specs.Tasks.{stopped}
-use Rattle.rules.specs.Regions.{occupied}
+use Rattle.rules.specs.Regions.{occupied, heldBy}
 use Rattle.rules.specs.Queues.{noneFits}
 use Rattle.rules.specs.Timers.{idle, armedByOther}
-use Rattle.rules.specs.Tables.{boundOf, queueOf}
+use Rattle.rules.specs.Tables.{regionOf, boundOf, queueOf}
 use Rattle.rules.specs.Validity.{valid}
 
 -- ---- 13 and 12
@@ -111,7 +111,7 @@ leaves c =
     -- START, STOP, END, SIGNAL, WAIT
     (false ∷ eqb (c .a) (c .caller) ∷ true ∷ false ∷ true ∷ [])
 
--- ---- 22: "The 256th ENTER gets 22, checked after 16"
+-- ---- 22 and 23: "The 256th ENTER gets 22, checked after 16"; "EXIT of a region that the caller doesn't hold now gets 23, checked after 16"
 
 -- the region's count is at its end
 abbrev pub entriesFull : List ℕ → ℕ → Bool
@@ -133,6 +133,7 @@ reasons t c =
     ∷ when 17 (eqb (c .operation) SEND && leb (boundOf t (c .a)) (length (queueOf t (c .a))))
     ∷ when 18 (eqb (c .operation) RETRIEVE && noneFits (c .c) (queueOf t (c .a)))
     ∷ when 22 (eqb (c .operation) ENTER && entriesFull (t .entries) (c .a))
+    ∷ when 23 (eqb (c .operation) EXIT && not (heldBy (c .caller) (regionOf t (c .a))))
     ∷ []
 
 -- ---- the lists of the queries: "ARRIVED uses 10, 12, 14, 19, and 12 for caller 255; the other queries have no caller and use 10 and 14"

@@ -19,17 +19,13 @@ occupied holders = not (isZero (held holders))
 abbrev pub holderOf : List ℕ → ℕ
 holderOf holders = held holders - 1
 
+abbrev pub heldBy : ℕ → Region → Bool
+heldBy task r = eqb (r .holder) (suc task)
+
 -- ENTER: "caller becomes holder"; "a region counts its entries"
 abbrev pub entered : ℕ → Region → Region
 entered caller r = record { holder = suc caller; entries = suc (r .entries) }
 
--- one entry less; "free only at the matching EXIT", which is that of the first entry
-abbrev pub countedDown : Region → Region
-countedDown r = record { holder = cond (eqb (r .entries) 1) 0 (r .holder); entries = r .entries - 1 }
-
-abbrev pub heldBy : ℕ → Region → Bool
-heldBy task r = eqb (r .holder) (suc task)
-
--- EXIT: "nothing changes if the caller doesn't hold it"
-abbrev pub exited : ℕ → Region → Region
-exited caller r = cond (heldBy caller r) (countedDown r) r
+-- EXIT: one entry less; "free only at the matching EXIT", which is that of the first entry
+abbrev pub exited : Region → Region
+exited r = record { holder = cond (eqb (r .entries) 1) 0 (r .holder); entries = r .entries - 1 }

@@ -157,7 +157,7 @@ module _ (t : Table) (p : Parts t) where
     exit-keeps o =
         let w = caller-of t (c .caller) (o .barred) (o .not-elected) in
         let l = there (t .regions) (c .a) (o .nothing-missing) in
-        valid-parts _ (keep-region t p (c .caller) (w .is) (w .one) (c .a) _ l (exit-right t p (c .caller) (w .is) (w .one) (c .a) l))
+        valid-parts _ (keep-region t p (c .caller) (w .is) (w .one) (c .a) _ l (exit-right t p (c .caller) (w .is) (w .one) (c .a) l (o .may-exit)))
 
     send-keeps : Keeps SEND
     unfolding missing

@@ -2,13 +2,13 @@
 use Prim.Native.Nat.{ℕ, suc, _-_, _<_, _≤_}
 use mathlib.Core.Path.{_≡_, refl, sym, _∙_}
 use mathlib.Core.Logic.{_≢_, _⊎_, inl, inr, ⊎-elim}
-use mathlib.Core.Bool.{Bool, true, false}
+use mathlib.Core.Bool.{Bool, true, false, not}
 use mathlib.Core.List.{List}
 use native.Mathlib.Omega.{arith}
 use lib.Dec.{eqb, ltb, leb}
 use lib.ListN.{getD, set, length, length-set}
 use lib.Seq.{getD-set-same, getD-set-other}
-use borrow.Author.Tests.{eqb-true, eqb-false, eq-eqb, lt-ltb, le-leb}
+use borrow.Author.Tests.{eqb-true, eqb-false, eq-eqb, lt-ltb, le-leb, not-false}
 use Rattle.rules.specs.declared.Region.{Region}
 use Rattle.rules.specs.declared.Table.{Table}
 use Rattle.rules.specs.Numbers.{regionRoom, mostEntries, nobody}
@@ -71,18 +71,17 @@ module _ (regions a who : ℕ) (r : Region) (right : RegionRight regions (suc wh
     entries-shown (suc who) (suc (r .entries)) (omega arith) (omega arith) (omega (arith, entries-most (r .holder) (r .entries) (right .1))),
   )
 
-  exit-fits : RegionRight regions (suc who) a (exited who r)
+  exit-fits : heldBy who r ≡ true → RegionRight regions (suc who) a (exited r)
   unfolding regionFits
-  exit-fits = go (heldBy who r) (eqb (r .entries) 1) refl refl
+  exit-fits own = go (eqb (r .entries) 1) refl
     where
-      go : (b c : Bool) → heldBy who r ≡ b → eqb (r .entries) 1 ≡ c → RegionRight regions (suc who) a (exited who r)
-      go false c e f = rw e right
-      go true true e f = let z : r .entries - 1 ≡ 0 = omega (arith, eqb-true (r .entries) 1 f) in rw (e, f, z) (refl, refl)
-      go true false e f =
-          let some : r .holder ≢ 0 = omega (arith, eqb-true (r .holder) (suc who) e) in
+      go : (c : Bool) → eqb (r .entries) 1 ≡ c → RegionRight regions (suc who) a (exited r)
+      go true f = let z : r .entries - 1 ≡ 0 = omega (arith, eqb-true (r .entries) 1 f) in rw (f, z) (refl, refl)
+      go false f =
+          let some : r .holder ≢ 0 = omega (arith, eqb-true (r .holder) (suc who) own) in
           let more : r .entries ≢ 1 = eqb-false _ _ f in
           let least = entries-some (r .holder) (r .entries) (right .1) some in
-          rw (e, f) (right .0, entries-shown (r .holder) (r .entries - 1) some (omega arith) (omega (arith, entries-most (r .holder) (r .entries) (right .1))))
+          rw f (right .0, entries-shown (r .holder) (r .entries - 1) some (omega arith) (omega (arith, entries-most (r .holder) (r .entries) (right .1))))
 
 -- ---- the table with one region changed
 
@@ -117,8 +116,8 @@ module _ (t : Table) (p : Parts t) (who : ℕ) (is : who ≡ t .elected) (one : 
   pub enter-right : (a : ℕ) → a < t .regions → entriesFull (t .entries) a ≡ false → RegionRight (t .regions) (suc who) a (entered who (regionOf t a))
   enter-right a l room = enter-fits (t .regions) a who (regionOf t a) (caller-region a l) l (eqb-false _ _ room)
 
-  pub exit-right : (a : ℕ) → a < t .regions → RegionRight (t .regions) (suc who) a (exited who (regionOf t a))
-  exit-right a l = exit-fits (t .regions) a who (regionOf t a) (caller-region a l)
+  pub exit-right : (a : ℕ) → a < t .regions → not (heldBy who (regionOf t a)) ≡ false → RegionRight (t .regions) (suc who) a (exited (regionOf t a))
+  exit-right a l own = exit-fits (t .regions) a who (regionOf t a) (caller-region a l) (not-false _ own)
 
   -- the table with a region that is right
   module _ (a : ℕ) (r : Region) (l : a < t .regions) (right : RegionRight (t .regions) (suc who) a r) where

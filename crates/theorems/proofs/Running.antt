@@ -138,7 +138,7 @@ module _ (t : Table) (p : Parts t) (c : Call) (h : occupied (t .holder) ≡ true
   exit-stays o =
       let w = caller-of t (c .caller) (o .barred) (o .not-elected) in
       let l = there (t .regions) (c .a) (o .nothing-missing) in
-      own _ w (held-after t p (c .caller) (w .is) (w .one) (c .a) (exited (c .caller) (regionOf t (c .a))) l (exit-right t p (c .caller) (w .is) (w .one) (c .a) l))
+      own _ w (held-after t p (c .caller) (w .is) (w .one) (c .a) (exited (regionOf t (c .a))) l (exit-right t p (c .caller) (w .is) (w .one) (c .a) l (o .may-exit)))
 
   tick-stays : Stays TICK (byOperation nothing TICK operations t c)
   tick-stays o k = ap holderOf (ticked-holder t) ∙ sym (holder-elected t p h)

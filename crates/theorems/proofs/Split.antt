@@ -2,7 +2,7 @@
 -- first, a call that passes SIGNAL the rest.
 use Prim.Native.Nat.{ℕ}
 use mathlib.Core.Path.{_≡_, refl, ap, _∙_}
-use mathlib.Core.Bool.{Bool, true, false, cond, _&&_, and-false, and-true}
+use mathlib.Core.Bool.{Bool, true, false, cond, not, _&&_, and-false, and-true}
 use mathlib.Core.List.{List, [], _∷_, map}
 use lib.Dec.{eqb, leb}
 use lib.ListN.{length}
@@ -10,12 +10,13 @@ use borrow.Author.Tests.{eq-eqb}
 use Rattle.rules.specs.declared.Timer.{Timer}
 use Rattle.rules.specs.declared.Table.{Table}
 use Rattle.rules.specs.declared.Call.{Call}
-use Rattle.rules.specs.Numbers.{outside, ENTER, SEND, RETRIEVE, TICK}
+use Rattle.rules.specs.Numbers.{outside, ENTER, EXIT, SEND, RETRIEVE, TICK}
 use Rattle.rules.specs.Words.{isZero, Reason, when, first}
 use Rattle.rules.specs.Tasks.{isStopped, signalled}
 use Rattle.rules.specs.Queues.{noneFits}
 use Rattle.rules.specs.Timers.{later, isDue, rung}
-use Rattle.rules.specs.Tables.{taskOf, boundOf, queueOf, changed, withTimers, withElected, electionOf, settled}
+use Rattle.rules.specs.Regions.{heldBy}
+use Rattle.rules.specs.Tables.{taskOf, regionOf, boundOf, queueOf, changed, withTimers, withElected, electionOf, settled}
 use Rattle.rules.specs.Validity.{valid}
 use Rattle.rules.specs.Answers.{done}
 use Rattle.rules.specs.Refusals.{missing, wrongState, leaves, entriesFull, reasons, refusal}
@@ -121,6 +122,7 @@ restReasons t c =
     ∷ when 17 (eqb (c .operation) SEND && leb (boundOf t (c .a)) (length (queueOf t (c .a))))
     ∷ when 18 (eqb (c .operation) RETRIEVE && noneFits (c .c) (queueOf t (c .a)))
     ∷ when 22 (eqb (c .operation) ENTER && entriesFull (t .entries) (c .a))
+    ∷ when 23 (eqb (c .operation) EXIT && not (heldBy (c .caller) (regionOf t (c .a))))
     ∷ []
 
 unfoldable pub restRefusal : Table → Call → ℕ

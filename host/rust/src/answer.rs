@@ -32,6 +32,8 @@ pub enum Status {
     BadConfiguration,
     /// 22: ENTER of a region that has been entered 255 times and not left.
     EnteredTooOften,
+    /// 23: EXIT of a region that the caller doesn't hold.
+    NotHeld,
     /// Any other number. The library gives none; so reading an answer has no case in which to fail.
     Other(u8),
 }
@@ -53,6 +55,7 @@ impl Status {
             19 => Status::BadOperator,
             20 => Status::BadConfiguration,
             22 => Status::EnteredTooOften,
+            23 => Status::NotHeld,
             other => Status::Other(other),
         }
     }

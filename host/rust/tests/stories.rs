@@ -37,7 +37,8 @@ fn p2() {
 }
 
 /// T-04: a routine 254 entries deep "calls a helper that enters and exits the same region", and goes on protected; the task started
-/// inside, more urgent, is elected at the last EXIT. "The 256th ENTER gets 22".
+/// inside, more urgent, is elected at the last EXIT. "The 256th ENTER gets 22". T-06: "EXIT of a region that the caller doesn't hold now
+/// gets 23".
 #[test]
 fn entries() {
     let (mut block, region) = (example(), Region::new(0).unwrap());
@@ -59,7 +60,7 @@ fn entries() {
     assert_eq!(block.call(task(0), Operation::End), answer(Status::InRegion, Some(0)));
     assert_eq!(block.call(task(0), exit), answer(Status::Done, Some(2)));
     let free = block.clone();
-    assert_eq!(block.call(task(2), exit), answer(Status::Done, Some(2)));
+    assert_eq!(block.call(task(2), exit), answer(Status::NotHeld, Some(2)));
     assert_eq!(block, free);
 }
 

@@ -1,8 +1,8 @@
 -- The first entry frees; without one nothing is counted down.
 use borrow.Author.Needs.{needs}
 use borrow.Author.Tests.{eq-eqb, ne-eqb}
-use Rattle.regions.proofs.effect.counted_down.Statement.{statement}
-use Rattle.regions.proofs.effect.counted_down.Tie as tie
+use Rattle.regions.proofs.effect.exited.Statement.{statement}
+use Rattle.regions.proofs.effect.exited.Tie as tie
 
 returns : tie.Need-returns
 returns c = rw (eq-eqb _ 1 (c .if1 .taken), c .if1 .taken)
@@ -16,5 +16,5 @@ sub-t3 c = search needs
 returns-3 : tie.Need-returns-3
 returns-3 c = rw (ne-eqb _ 1 (c .before .before .before .if1 .left))
 
-pub counted-down-spec : {M : Type 1} → statement M
-counted-down-spec = tie.close (tie.spec returns returns-2 sub-t3 returns-3)
+pub exited-spec : {M : Type 1} → statement M
+exited-spec = tie.close (tie.spec returns returns-2 sub-t3 returns-3)
