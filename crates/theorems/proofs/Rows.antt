@@ -12,7 +12,7 @@ use borrow.Author.Tests.{eqb-true, eqb-false, ltb-true, lt-ltb}
 use Rattle.rules.specs.declared.Task.{Task}
 use Rattle.rules.specs.declared.Timer.{Timer}
 use Rattle.rules.specs.declared.Table.{Table}
-use Rattle.rules.specs.Numbers.{taskRoom, listEnd}
+use Rattle.rules.specs.Numbers.{taskRoom, eventEnd, listEnd}
 use Rattle.rules.specs.Words.{isZero}
 use Rattle.rules.specs.Events.{met, arrive, cleared}
 use Rattle.rules.specs.Tasks.{isStopped, isReady, asStarted, asStopped, woken, signalled, waited, asCleared}
@@ -88,12 +88,12 @@ waited-awake list operator r n = go (met operator list (r .arrived)) refl
 abbrev task : ℕ → ℕ → ℕ → ℕ → Task
 task s a l o = record { state = s; arrived = a; list = l; operator = o }
 
-pub signalled-fits : (e : ℕ) → e < 16 → (priority : ℕ) (r : Task) → isStopped r ≡ false → Fits priority r → Fits priority (signalled e r)
+pub signalled-fits : (e : ℕ) → e < eventEnd → (priority : ℕ) (r : Task) → isStopped r ≡ false → Fits priority r → Fits priority (signalled e r)
 unfolding signalled woken
 signalled-fits e k priority r = go (r .state) (r .arrived) (r .list) (r .operator)
   where
     more : (a : ℕ) → ltb a listEnd ≡ true → ltb (arrive e a) listEnd ≡ true
-    more a h = lt-ltb _ _ (arrive-lt 16 e a k (ltb-true a listEnd h))
+    more a h = lt-ltb _ _ (arrive-lt eventEnd e a k (ltb-true a listEnd h))
 
     go : (s a l o : ℕ) → isStopped (task s a l o) ≡ false → Fits priority (task s a l o) → Fits priority (signalled e (task s a l o))
     go zero a l o n f = absurd (true≢false n)

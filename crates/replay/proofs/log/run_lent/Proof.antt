@@ -4,6 +4,7 @@ use native.Mathlib.Omega.{arith}
 use Prim.Native.Nat.{_-_, _*_, _≤_}
 use mathlib.Core.Path.{_≡_, refl}
 use lib.ListN.{length, length-set}
+use Rattle.rules.specs.Numbers.{storeSize}
 use Rattle.tables.specs.Fronts.{whole}
 use Rattle.replay.proofs.Runs.{Ran, ran-none, ran-again, ran-all}
 use Rattle.replay.proofs.log.run_lent.Statement.{statement}
@@ -16,7 +17,7 @@ Inv-loop f₀ n each log element₀ criterion₀ answers₀ known i₀ f element
 abbrev μ-loop : tie.MeasureT-loop
 μ-loop f₀ n each log element₀ criterion₀ answers₀ known i₀ f element criterion answers i = n - i
 
-sizes : (c : tie.Start Inv-loop μ-loop) → (length (c .args .element .now) ≡ 512) × ((length (c .args .criterion .now) ≡ 512) × ((5 * c .args .n ≤ length (c .args .log .now)) × (c .args .n ≤ length (c .args .answers .now))))
+sizes : (c : tie.Start Inv-loop μ-loop) → (length (c .args .element .now) ≡ storeSize) × ((length (c .args .criterion .now) ≡ storeSize) × ((5 * c .args .n ≤ length (c .args .log .now)) × (c .args .n ≤ length (c .args .answers .now))))
 sizes c = (search needs, (search needs, (search needs, search needs)))
 
 -- ---- the way back, from call to call

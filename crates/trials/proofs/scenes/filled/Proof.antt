@@ -1,6 +1,7 @@
 -- Safety alone: each element sent is below 164.
 use borrow.Author.Needs.{needs}
 use Prim.Native.Nat.{_-_}
+use Rattle.rules.specs.Numbers.{places}
 use Rattle.trials.proofs.scenes.filled.Statement.{statement}
 use Rattle.trials.proofs.scenes.filled.Tie as tie
 
@@ -8,7 +9,7 @@ abbrev Inv-loop : tie.InvT-loop
 Inv-loop t₀ i₀ t i = Unit
 
 abbrev μ-loop : tie.MeasureT-loop
-μ-loop t₀ i₀ t i = 64 - i
+μ-loop t₀ i₀ t i = places - i
 
 largest-requires : tie.Need-largest-requires Inv-loop μ-loop
 largest-requires c κs = search needs
