@@ -4,8 +4,8 @@
 #include <string.h>
 #include "expect.h"
 
-enum { REGIONS = 1, QUEUES = 2, ELECTED = 3, PRIORITY = 4, STATE = 36, ARRIVED = 68, LIST = 132, OPERATOR = 196, HOLDER = 228,
-       ENTRIES = 244, BOUND = 260, LENGTH = 268, ELEMENT = 276, CRITERION = 2324, TICKS = 2836, TIMER = 2840, UNUSED = 3, DATE = 4,
+enum { REGIONS = 1, QUEUES = 2, ELECTED = 3, PRIORITY = 4, STATE = 68, ARRIVED = 132, LIST = 260, OPERATOR = 388, HOLDER = 452,
+       ENTRIES = 468, BOUND = 484, LENGTH = 492, ELEMENT = 500, CRITERION = 2548, TICKS = 3060, TIMER = 3064, UNUSED = 3, DATE = 4,
        TIMER_WIDTH = 8 };
 
 static uint8_t expected[SIZE];
@@ -23,7 +23,7 @@ static void same_block(const char *where)
 
 /* ---- fresh */
 
-static const uint8_t priorities[33] = {5, 0, 255, 7};
+static const uint8_t priorities[65] = {5, 0, 255, 7};
 static const uint8_t bounds[9] = {1, 64, 3, 4, 5, 6, 7, 8, 0};
 
 /* A configuration on a block of 0xEE, which is no table: "Make fresh looks only at the size". */
@@ -52,15 +52,16 @@ static void fresh_blocks(void)
     memcpy(expected + BOUND, "\1\100", 2);
     same_block(HERE);
     /* "Entries past a count aren't read": longer lists, and a bound of 0 past the count, make the same block. */
-    same_answer(HERE, configured(4, 3, 2, 33, 9), 0, 0, 0, 0);
+    same_answer(HERE, configured(4, 3, 2, 65, 9), 0, 0, 0, 0);
     same_block(HERE);
     same_answer(HERE, tankwesho_fresh(block, SIZE, 1, 0, 0, priorities, 1, NULL, 0), 0, 0, 0, 0);
-    same_answer(HERE, configured(32, 16, 8, 32, 8), 0, 0, 0, 0);
+    same_answer(HERE, configured(33, 16, 8, 33, 8), 0, 0, 0, 0);
+    same_answer(HERE, configured(64, 16, 8, 64, 8), 0, 0, 0, 0);
     group_was_right("fresh");
 
-    /* "Tasks 1 to 32", "Regions 0 to 16", "Queues 0 to 8", "a bound of 1 to 64"; "a list shorter than its count is out of range". */
+    /* T-07: tasks 1 to 64. "Regions 0 to 16", "Queues 0 to 8", "a bound of 1 to 64"; "a list shorter than its count is out of range". */
     refused_with_20(HERE, configured(0, 3, 2, 4, 2));
-    refused_with_20(HERE, configured(33, 3, 2, 33, 2));
+    refused_with_20(HERE, configured(65, 3, 2, 65, 2));
     refused_with_20(HERE, configured(4, 17, 2, 4, 2));
     refused_with_20(HERE, configured(4, 3, 9, 4, 9));
     refused_with_20(HERE, configured(4, 3, 2, 3, 2));
@@ -142,7 +143,7 @@ struct allowed {
 };
 
 static const struct allowed in_busy[] = {
-    {0, 0, 4, 32},                                        /* more tasks: they are stopped, and of priority 0 */
+    {0, 0, 4, 64},                                        /* more tasks: they are stopped, and of priority 0 */
     {REGIONS, REGIONS, 3, 16},                            /* more regions, free */
     {PRIORITY, PRIORITY + 3, 0, 255},                     /* "the holder if any region is occupied": no priority is asked */
     {STATE + 3, STATE + 3, 0, 1},                         /* the stopped task made ready */
@@ -162,7 +163,7 @@ static const struct allowed in_busy[] = {
 
 /* Document 01's example with all three tasks ready: no region is held, and task 2 is elected by its priority. */
 static const struct allowed in_free[] = {
-    {0, 0, 3, 32},
+    {0, 0, 3, 64},
     {REGIONS, REGIONS, 0, 16},            /* fewer or more: all are free */
     {PRIORITY, PRIORITY + 1, 3, 255},     /* "of equals the lowest task number": with 2 task 0 or 1 would be elected */
     {PRIORITY + 2, PRIORITY + 2, 0, 4},   /* with 5 task 0 would be elected */
@@ -301,13 +302,13 @@ static void counter_starts_again(void)
     group_was_right("the counter starts again at 0");
 }
 
-/* "A block of wrong size … gets 10 and isn't touched": whatever stands in it, and whatever is asked. So does the size before T-04, when
-   regions had no counts. */
+/* "A block of wrong size … gets 10 and isn't touched": whatever stands in it, and whatever is asked. So do the sizes before T-04, when
+   regions had no counts, and before T-07, when there were at most 32 tasks. */
 static void other_sizes(void)
 {
-    enum { BEFORE_T_04 = 2952 };
+    enum { BEFORE_T_04 = 2952, BEFORE_T_07 = 2968 };
     static uint8_t room[2 * SIZE], before[2 * SIZE];
-    static const size_t sizes[] = {0, 1, 3, 4, SIZE / 2, BEFORE_T_04, SIZE - 8, SIZE - 1, SIZE + 1, SIZE + 8, SIZE + 16, 2 * SIZE};
+    static const size_t sizes[] = {0, 1, 3, 4, SIZE / 2, BEFORE_T_04, BEFORE_T_07, SIZE - 8, SIZE - 1, SIZE + 1, SIZE + 8, SIZE + 16, 2 * SIZE};
     fresh_example();
     memcpy(room, block, SIZE);
     memcpy(before, room, sizeof room);

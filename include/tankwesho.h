@@ -12,7 +12,7 @@ extern "C" {
 #endif
 
 /* The size of a block, in bytes. A layout that changes gets another size, so that a block of an older one is refused and never misread. */
-#define TANKWESHO_BLOCK_SIZE 2968
+#define TANKWESHO_BLOCK_SIZE 3192
 
 /* The caller that is no task. It may SIGNAL and TICK. */
 #define TANKWESHO_OUTSIDE 255
@@ -87,7 +87,7 @@ enum tankwesho_status {
    never at what stands in it.
    priorities has an entry for each task, bounds one for each queue. Entries past the count aren't read. The three arrays don't overlap.
    DONE: elected is task 0.
-   BAD_CONFIGURATION: a count is out of range (1 to 32 tasks, 0 to 16 regions, 0 to 8 queues), a list is shorter than its count, or a bound
+   BAD_CONFIGURATION: a count is out of range (1 to 64 tasks, 0 to 16 regions, 0 to 8 queues), a list is shorter than its count, or a bound
    isn't 1 to 64. The block is all 0, which is not a table.
    NOT_A_TABLE: block_length isn't TANKWESHO_BLOCK_SIZE; tested first. Nothing is written. A null block of length 0 gets it too. */
 uint64_t tankwesho_fresh(uint8_t *block, size_t block_length, uint8_t tasks, uint8_t regions, uint8_t queues, const uint8_t *priorities,

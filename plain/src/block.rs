@@ -5,8 +5,8 @@ use crate::configuration::Configuration;
 use crate::queries::Query;
 use crate::table::{Region, State, Table, Timer, PLACES, REGIONS};
 
-/// The size of a block; the entries of regions came with T-04.
-pub const SIZE: usize = 2968;
+/// The size of a block.
+pub const SIZE: usize = 3192;
 
 /// Takes numbers off the front of a block.
 struct Reader<'a> {

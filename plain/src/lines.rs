@@ -7,7 +7,7 @@ use crate::configuration::{counts_fit, Configuration};
 use crate::table::Table;
 
 /// The most characters that a line may have before its line feed.
-pub const LONGEST: usize = 128;
+pub const LONGEST: usize = 192;
 /// The digits of a call line.
 pub const CALL_DIGITS: usize = 28;
 /// The characters of an answer line, with its line feed.

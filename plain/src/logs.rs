@@ -9,7 +9,7 @@ use crate::random::Random;
 use crate::table::{Table, QUEUES, REGIONS, TASKS};
 
 /// The configuration of the measured log: 32 tasks of 16 priorities, 16 regions, 8 queues.
-pub const MEASURED: Configuration = Configuration {
+pub const MEASURED: Configuration<'static> = Configuration {
     tasks: 32,
     regions: 16,
     queues: 8,
@@ -19,17 +19,27 @@ pub const MEASURED: Configuration = Configuration {
     bounds: &[64, 64, 64, 64, 48, 32, 16, 8],
 };
 
-/// The seed of the measured log.
+/// The same with as many tasks as there may be, of 32 priorities.
+pub const MEASURED_64: Configuration<'static> = Configuration {
+    tasks: 64,
+    priorities: &[
+        8, 3, 14, 0, 11, 6, 9, 1, 12, 5, 2, 15, 7, 4, 10, 13, 24, 19, 30, 16, 27, 22, 25, 17, 28, 21, 18, 31, 23, 20, 26, 29, 8, 3, 14, 0,
+        11, 6, 9, 1, 12, 5, 2, 15, 7, 4, 10, 13, 24, 19, 30, 16, 27, 22, 25, 17, 28, 21, 18, 31, 23, 20, 26, 29,
+    ],
+    ..MEASURED
+};
+
+/// The seed of the measured logs.
 pub const MEASURED_SEED: u64 = 1980;
 
-/// The calls of the measured log, their mix, and the table that they lead to.
-pub fn measured(seed: u64, calls: usize) -> (Vec<Call>, Mix, Table) {
+/// The calls of a measured log, their mix, and the table that they lead to.
+pub fn measured(configuration: &Configuration, seed: u64, calls: usize) -> (Vec<Call>, Mix, Table) {
     let manner = Manner {
         slip: 24,
         longest_delay: 40,
         kept_alive: 12,
     };
-    let mut author = Author::new(&MEASURED, manner, Random::new(seed));
+    let mut author = Author::new(configuration, manner, Random::new(seed));
     let mut mix = Mix::default();
     let calls = (0..calls)
         .map(|_| {
@@ -157,7 +167,7 @@ impl Setup {
 fn hostile(mut random: Random) -> Vec<u8> {
     let mut setup = Setup::drawn(&mut random, 1..=TASKS, REGIONS, QUEUES, 64, 255);
     match random.below(16) {
-        0 => setup.counts[random.below(3) as usize] = random.of(&[0, 1, 8, 9, 16, 17, 32, 33, 64, 128, 255]),
+        0 => setup.counts[random.below(3) as usize] = random.of(&[0, 1, 8, 9, 16, 17, 32, 33, 63, 64, 65, 128, 255]),
         1 => setup
             .bounds
             .iter_mut()

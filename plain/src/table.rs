@@ -2,7 +2,7 @@
 //!
 //! Every number keeps its whole range, also where a valid table uses less of it, so that a damaged table can be held and found out.
 
-pub const TASKS: usize = 32;
+pub const TASKS: usize = 64;
 pub const REGIONS: usize = 16;
 pub const QUEUES: usize = 8;
 pub const PLACES: usize = 64;

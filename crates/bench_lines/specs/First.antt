@@ -13,7 +13,7 @@ use Rattle.digits.specs.Digits.{isDigit, value}
 use Rattle.lines.specs.Ends.{longest}
 use Rattle.bench_lines.specs.Start.{firstRefused}
 
--- no "other character", and not "over 128 characters"
+-- no "other character", and not over 192 characters
 unfoldable pub plain : List ℕ → Bool
 plain line = leb (length line) longest && every isDigit line
 

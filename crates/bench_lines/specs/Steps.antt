@@ -32,7 +32,7 @@ callLine t line = cond (plain line && eqb (length line) callLength) (step t (cal
 
 -- ---- any line, where `begun` says that it isn't the first
 
--- a line of over 128 bytes, whatever they are
+-- a line of over 192 bytes, whatever they are
 unfoldable pub tooLong : Standing → Done
 tooLong s = cond (s .begun) (malformed (s .table)) (firstRefused 21)
 

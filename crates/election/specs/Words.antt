@@ -5,7 +5,7 @@ use lib.Bits.{bitOr}
 
 -- bits of the code's word of ready tasks: as many as there are tasks, or more
 abbrev pub wordBits : ℕ
-wordBits = 32
+wordBits = 64
 
 -- the numbers below n that pass
 unfoldable pub word : ℕ → (ℕ → Bool) → ℕ

@@ -21,7 +21,7 @@ const PRIORITY_END: u16 = 256;
 const NOT_READY: u16 = 512;
 
 // A word of ready tasks, a bit for each.
-type ReadyWord = u32;
+type ReadyWord = u64;
 
 fn handicap(state: u8) -> u16
     ensures { λ r. ⌜ r ≡ cond (eqb state ready) 0 notReady ⌝ }
@@ -92,7 +92,7 @@ fn ready_word<'a>(state: &'a [u8; TASKS], priority: &'a [u8; TASKS], p: u16) -> 
 fn lowest_bit(w: ReadyWord) -> u32
     ensures { λ r. ⌜ r ≡ trailingZeros wordBits w ⌝ }
 {
-    u32::trailing_zeros(w)
+    u64::trailing_zeros(w)
 }
 
 // The lowest number of a ready task of priority p. Where there is none the word is empty, and would give its width.

@@ -52,7 +52,7 @@ ticksPlace = criterionPlace + storeSize
 abbrev pub timersPlace : ℕ
 timersPlace = ticksPlace + wordWidth
 
--- "one stated size": 2968 bytes
+-- "one stated size": 3192 bytes
 abbrev pub blockSize : ℕ
 blockSize = timersPlace + timerWidth * timerRoom
 

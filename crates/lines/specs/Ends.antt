@@ -11,9 +11,9 @@ use Rattle.lines.specs.declared.ends.Line.the-variants.{Whole, TooLong, 
 abbrev pub lineFeed : ℕ
 lineFeed = 10
 
--- "over 128 characters before its line feed"
+-- "over 128 characters before its line feed" is malformed; since T-07 "the longest line becomes 192"
 abbrev pub longest : ℕ
-longest = 128
+longest = 192
 
 -- how many bytes stand before the first line feed; all of them where there is none
 abbrev pub lineLength : List ℕ → ℕ

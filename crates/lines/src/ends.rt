@@ -6,7 +6,7 @@ ghost use Rattle.lines.specs.Ends.{lineLength, lineAt};
 ghost use Rattle.lines.specs.Reading.{placeAfter};
 
 // The most bytes that a line may have before its line feed.
-pub const LONGEST: usize = 128;
+pub const LONGEST: usize = 192;
 
 // What begins at a place.
 pub enum Line {

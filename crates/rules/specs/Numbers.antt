@@ -1,9 +1,9 @@
 -- The numbers of document 01's table of objects, and the numbers of the thirteen operations, each once by name.
 use Prim.Native.Nat.{ℕ}
 
--- "Tasks: 1 to 32"
+-- "Tasks: 1 to 32"; since T-07 1 to 64
 abbrev pub taskRoom : ℕ
-taskRoom = 32
+taskRoom = 64
 
 -- "Priority: 0 to 255"
 abbrev pub priorityEnd : ℕ

@@ -35,7 +35,7 @@ shaped t =
 
 -- ---- "Counts, priorities, bounds, event lists, operators, holders and stored criteria are in range."
 
--- "Tasks 1 to 32", "Regions 0 to 16", "Queues 0 to 8"
+-- "Tasks 1 to 32", since T-07 1 to 64; "Regions 0 to 16", "Queues 0 to 8"
 unfoldable pub countsInRange : ℕ → ℕ → ℕ → Bool
 countsInRange tasks regions queues =
     all (ltb 0 tasks ∷ leb tasks taskRoom ∷ leb regions regionRoom ∷ leb queues queueRoom ∷ [])

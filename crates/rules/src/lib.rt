@@ -1,7 +1,7 @@
 // The things that the rules speak of: tasks, the table, a call and its answer. There is no code here: `specs/` says what each call does.
 
 // How many of each object a table has room for.
-pub const TASKS: usize = 32;
+pub const TASKS: usize = 64;
 
 pub const REGIONS: usize = 16;
 

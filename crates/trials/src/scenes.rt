@@ -113,10 +113,10 @@ pub(crate) fn table_of(scene: u32, before: Table) -> Table {
         // busy: something of everything. Tasks 0 and 1 are ready, task 2 waits for events 0 and 1 and has event 0, task 0 holds
         // region 0, and queue 0 holds (11, 3).
         7 => busy(),
-        // largest: 32 tasks, of which the last is the most urgent, 16 regions, 8 queues of bound 64.
+        // largest: 64 tasks, of which the last is the most urgent, 16 regions, 8 queues of bound 64.
         8 => largest(),
-        // last: as largest, and task 31 is ready, and so elected.
-        9 => after(largest(), 0, START, 31, 0, 0),
+        // last: as largest, and task 63 is ready, and so elected.
+        9 => after(largest(), 0, START, 63, 0, 0),
         // filled: as largest, and queue 7 is at its bound, with elements 100 to 163 of criterion 3.
         10 => filled(),
         // zeros: not valid.

@@ -65,4 +65,4 @@ pub use calls::{Operation, Outside, Query, Wanted};
 pub use numbers::{Criterion, Delay, Event, EventList, Operator, Queue, Region, Task, Timer};
 
 /// The size of a block, in bytes.
-pub const SIZE: usize = 2968;
+pub const SIZE: usize = 3192;

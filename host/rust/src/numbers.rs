@@ -27,8 +27,8 @@ macro_rules! numbers {
 }
 
 numbers! {
-    /// A task, 0 to 31. A block may have fewer: a call that names one past its count gets [`Status::Missing`](crate::Status::Missing).
-    Task: u8, 0 to 31;
+    /// A task, 0 to 63. A block may have fewer: a call that names one past its count gets [`Status::Missing`](crate::Status::Missing).
+    Task: u8, 0 to 63;
     /// An event of a task, 0 to 15.
     Event: u8, 0 to 15;
     /// A region, 0 to 15. A block may have fewer.

@@ -109,7 +109,7 @@ fn drawn_damage() {
     assert!(tables > 100 && damaged > 100, "{tables} and {damaged}: the draw is no longer a mix");
 }
 
-/// T-04: "A region counts its entries, 1 to 255"; "A free region has count 0". The counts stand at 244 to 259.
+/// T-04: "A region counts its entries, 1 to 255"; "A free region has count 0". The counts stand at 468 to 483.
 #[test]
 fn damaged_counts() {
     let (mut block, region) = (example(), Region::new(0).unwrap());
@@ -119,12 +119,12 @@ fn damaged_counts() {
         bytes[place] = count;
         Block::from_bytes(&bytes)
     };
-    assert_eq!(with_count(244, 1), Ok(block.clone()));
-    assert_eq!(with_count(244, 0), Err(Status::NotATable));
-    for place in 245..260 {
+    assert_eq!(with_count(468, 1), Ok(block.clone()));
+    assert_eq!(with_count(468, 0), Err(Status::NotATable));
+    for place in 469..484 {
         assert_eq!(with_count(place, 1), Err(Status::NotATable));
     }
-    let mut deepest = with_count(244, 255).unwrap();
+    let mut deepest = with_count(468, 255).unwrap();
     assert_eq!(deepest.call(Task::FIRST, Operation::Enter { region }).status, Status::EnteredTooOften);
 }
 
@@ -135,7 +135,7 @@ fn drawn_bytes() {
     for number in 0..=255 {
         let mut bytes = [0; SIZE];
         bytes.iter_mut().for_each(|byte| *byte = drawn.next() as u8);
-        bytes[2843] |= 1;
+        bytes[3067] |= 1;
         let before = bytes;
         assert_eq!(raw::call(&mut bytes, before[3], number, 0, 0, 0).status, Status::NotATable);
         assert_eq!(raw::query(&bytes, number, bytes[3], 0, 0).status, Status::NotATable);

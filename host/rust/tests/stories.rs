@@ -125,11 +125,11 @@ fn refusals_change_nothing() {
         (0, Operation::Start { task: task(3) }, Status::Missing),
         (0, Operation::Start { task: task(0) }, Status::WrongState),
         (0, Operation::Stop { task: task(1) }, Status::WrongState),
-        (0, Operation::Signal { event: event(15), task: task(31) }, Status::Missing),
+        (0, Operation::Signal { event: event(15), task: task(63) }, Status::Missing),
         (0, Operation::Enter { region: Region::new(2).unwrap() }, Status::Missing),
         (0, Operation::Retrieve { queue: Queue::new(1).unwrap(), wanted: Wanted::Largest }, Status::Missing),
         (1, Operation::End, Status::NotElected),
-        (31, Operation::End, Status::NotElected),
+        (63, Operation::End, Status::NotElected),
     ];
     for (caller, operation, status) in refused {
         assert_eq!(block.call(task(caller), operation), answer(status, Some(0)));
@@ -143,13 +143,13 @@ fn refusals_change_nothing() {
 #[test]
 fn configurations() {
     assert_eq!(Block::fresh(2, &[], &[2]), Err(Status::BadConfiguration));
-    assert_eq!(Block::fresh(2, &[5; 33], &[2]), Err(Status::BadConfiguration));
+    assert_eq!(Block::fresh(2, &[5; 65], &[2]), Err(Status::BadConfiguration));
     assert_eq!(Block::fresh(17, &[5], &[2]), Err(Status::BadConfiguration));
     assert_eq!(Block::fresh(2, &[5], &[0]), Err(Status::BadConfiguration));
     assert_eq!(Block::fresh(2, &[5], &[1; 9]), Err(Status::BadConfiguration));
     // 256 and 257 entries are not 0 and 1 of them.
     assert_eq!(Block::fresh(2, &[5; 257], &[2]), Err(Status::BadConfiguration));
     assert_eq!(Block::fresh(2, &[5], &[1; 256]), Err(Status::BadConfiguration));
-    assert!(Block::fresh(16, &[255; 32], &[64; 8]).is_ok());
+    assert!(Block::fresh(16, &[255; 64], &[64; 8]).is_ok());
     assert!(Block::fresh(0, &[0], &[]).is_ok());
 }

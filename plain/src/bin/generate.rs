@@ -1,6 +1,6 @@
 //! Writes a log to standard output.
 //!
-//!     generate mixed [SEED [CALLS]]    the measured log; its mix goes to standard error, and every pair of operation and status must occur
+//!     generate mixed [SEED [CALLS]]    the measured log of 32 tasks; its mix goes to standard error, and every pair of operation and status must occur
 //!     generate KIND SEED               a log of a kind that is compared: sensible, hostile, malformed, dense
 
 use std::io::{self, Write};
@@ -23,7 +23,7 @@ fn main() -> ExitCode {
 }
 
 fn mixed(seed: u64, count: usize) -> ExitCode {
-    let (calls, mix, _) = measured(seed, count);
+    let (calls, mix, _) = measured(&MEASURED, seed, count);
     eprint!("{count} calls, seed {seed}; operations by status\n{mix}");
     let amiss = mix.amiss();
     amiss.iter().for_each(|pair| eprintln!("{pair}"));

@@ -1,8 +1,8 @@
-//! Times the proved executive and the plain one on the measured log, turn by turn in one process.
+//! Times the proved executive and the plain one on the measured logs, of 32 tasks and of 64, turn by turn in one process.
 //!
 //!     speed BENCH PLAIN_BENCH LOG [REPEATS]
 //!
-//! LOG is where the measured log is written for the two benches. Times are processor time. The log is cut into pieces, each side runs a
+//! LOG is where a measured log is written for the two benches. Times are processor time. The log is cut into pieces, each side runs a
 //! piece before any runs the next, and each piece is timed by itself: what else runs on the machine then disturbs all sides alike.
 //! From these times follows what the proved executive's validity check costs, and what a call on a block costs beside one in a replay.
 
@@ -10,7 +10,8 @@ use std::fs::{self, File};
 use std::process::{Command, ExitCode, Stdio};
 
 use plain::answer::{Answer, Call};
-use plain::logs::{measured, written, MEASURED, MEASURED_SEED};
+use plain::configuration::Configuration;
+use plain::logs::{measured, written, MEASURED, MEASURED_64, MEASURED_SEED};
 use plain::table::Table;
 
 const CALLS: usize = 1_000_000;
@@ -80,7 +81,7 @@ type Run = Box<dyn FnMut(&Piece) -> u64>;
 struct Side {
     name: &'static str,
     against: usize,
-    begin: fn() -> Run,
+    begin: fn(&Configuration) -> Run,
 }
 
 /// The names of the proved sides, by which their times are found again.
@@ -93,24 +94,24 @@ const SIDES: &[Side] = &[
     Side {
         name: "plain, in place",
         against: 0,
-        begin: || plain_run(Table::call),
+        begin: |configuration| plain_run(configuration, Table::call),
     },
     Side {
         name: "plain, in place, no validity check",
         against: 1,
-        begin: || plain_run(Table::call_on_valid),
+        begin: |configuration| plain_run(configuration, Table::call_on_valid),
     },
     #[cfg(feature = "proved")]
     Side {
         name: CHECK_AT_EVERY_CALL,
         against: 0,
-        begin: || proved_replay(true),
+        begin: |configuration| proved_replay(configuration, true),
     },
     #[cfg(feature = "proved")]
     Side {
         name: CHECK_ONCE,
         against: 1,
-        begin: || proved_replay(false),
+        begin: |configuration| proved_replay(configuration, false),
     },
     #[cfg(feature = "proved")]
     Side {
@@ -120,15 +121,15 @@ const SIDES: &[Side] = &[
     },
 ];
 
-fn plain_run(call: impl Fn(&mut Table, &Call) -> Answer + 'static) -> Run {
-    let mut table = MEASURED.fresh().expect("in range");
+fn plain_run(configuration: &Configuration, call: impl Fn(&mut Table, &Call) -> Answer + 'static) -> Run {
+    let mut table = configuration.fresh().expect("in range");
     Box::new(move |piece| piece.calls.iter().fold(0, |sum, one| summed(sum, call(&mut table, one).packed())))
 }
 
 #[cfg(feature = "proved")]
-fn proved_replay(each: bool) -> Run {
+fn proved_replay(configuration: &Configuration, each: bool) -> Run {
     let mut block = vec![0; plain::block::SIZE];
-    plain::proved::fresh(&mut block, &MEASURED);
+    plain::proved::fresh(&mut block, configuration);
     let mut answers = vec![0; PIECE];
     Box::new(move |piece| {
         let made = plain::proved::replay(&mut block, &piece.numbers, &mut answers, each);
@@ -138,9 +139,9 @@ fn proved_replay(each: bool) -> Run {
 }
 
 #[cfg(feature = "proved")]
-fn proved_on_block() -> Run {
+fn proved_on_block(configuration: &Configuration) -> Run {
     let mut block = vec![0; plain::block::SIZE];
-    plain::proved::fresh(&mut block, &MEASURED);
+    plain::proved::fresh(&mut block, configuration);
     Box::new(move |piece| {
         piece
             .calls
@@ -199,7 +200,7 @@ fn show(name: &str, times: &Times, against: &Times) {
 }
 
 /// The calls in one process: each piece by every side in turn, the whole log again and again. Gives the times of each side.
-fn in_process(calls: &[Call], repeats: usize) -> Result<Vec<Times>, String> {
+fn in_process(configuration: &Configuration, calls: &[Call], repeats: usize) -> Result<Vec<Times>, String> {
     let pieces: Vec<Piece> = calls
         .chunks(PIECE)
         .map(|calls| Piece {
@@ -210,7 +211,7 @@ fn in_process(calls: &[Call], repeats: usize) -> Result<Vec<Times>, String> {
         .collect();
     let mut times = vec![Times::new(pieces.len()); SIDES.len()];
     for _ in 0..repeats {
-        let mut runs: Vec<Run> = SIDES.iter().map(|side| (side.begin)()).collect();
+        let mut runs: Vec<Run> = SIDES.iter().map(|side| (side.begin)(configuration)).collect();
         for (number, piece) in pieces.iter().enumerate() {
             let mut expected = None;
             for (at, run) in runs.iter_mut().enumerate() {
@@ -298,6 +299,29 @@ fn whole_benches(proved: &str, plain: &str, log: &str, repeats: usize) -> Result
     Ok(())
 }
 
+/// One measured log by every side, and by both benches.
+fn measure_one(configuration: &Configuration, benches: [&str; 2], log: &str, repeats: usize) -> Result<(), String> {
+    let (calls, mix, _) = measured(configuration, MEASURED_SEED, CALLS);
+    print!(
+        "{CALLS} calls over {} tasks, seed {MEASURED_SEED}; operations by status\n{mix}",
+        configuration.tasks
+    );
+    let amiss = mix.amiss();
+    if !amiss.is_empty() {
+        return Err(amiss.join("\n"));
+    }
+    fs::write(log, written(configuration, &calls)).map_err(|error| format!("{log}: {error}"))?;
+    println!("\nnanoseconds a call over {repeats} repeats, then the ratio to the plain side");
+    println!("{:36}{:>10}{:>10}{:>10}{:>10}", "", "least", "median", "least", "median");
+    let times = in_process(configuration, &calls, repeats)?;
+    let [proved, plain] = benches;
+    whole_benches(proved, plain, log, repeats)?;
+    if let (Some(least), Some(median)) = (Proved::of(&times, Times::least), Proved::of(&times, Times::median)) {
+        show_proved(&least, &median);
+    }
+    Ok(())
+}
+
 fn measure(words: &[String]) -> Result<(), String> {
     let [proved, plain, log, rest @ ..] = words else {
         return Err("usage: speed BENCH PLAIN_BENCH LOG [REPEATS]".into());
@@ -306,21 +330,9 @@ fn measure(words: &[String]) -> Result<(), String> {
         .first()
         .map_or(Ok(11), |word| word.parse())
         .map_err(|_| "REPEATS is a number")?;
-    let (calls, mix, _) = measured(MEASURED_SEED, CALLS);
-    print!("{CALLS} calls, seed {MEASURED_SEED}; operations by status\n{mix}");
-    let amiss = mix.amiss();
-    if !amiss.is_empty() {
-        return Err(amiss.join("\n"));
-    }
-    fs::write(log, written(&MEASURED, &calls)).map_err(|error| format!("{log}: {error}"))?;
-    println!("\nnanoseconds a call over {repeats} repeats, then the ratio to the plain side");
-    println!("{:36}{:>10}{:>10}{:>10}{:>10}", "", "least", "median", "least", "median");
-    let times = in_process(&calls, repeats)?;
-    whole_benches(proved, plain, log, repeats)?;
-    if let (Some(least), Some(median)) = (Proved::of(&times, Times::least), Proved::of(&times, Times::median)) {
-        show_proved(&least, &median);
-    }
-    Ok(())
+    measure_one(&MEASURED, [proved, plain], log, repeats)?;
+    println!();
+    measure_one(&MEASURED_64, [proved, plain], log, repeats)
 }
 
 fn main() -> ExitCode {

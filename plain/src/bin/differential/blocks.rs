@@ -4,7 +4,7 @@ use plain::answer::{Call, OUTSIDE};
 use plain::author::{Author, Manner, EDGES};
 use plain::block::{self, SIZE};
 use plain::configuration::Configuration;
-use plain::logs::MEASURED;
+use plain::logs::{MEASURED, MEASURED_64};
 use plain::proved;
 use plain::random::Random;
 use plain::table::Table;
@@ -50,9 +50,9 @@ pub fn compare() -> Compared {
     Ok(total)
 }
 
-/// An author with either configuration by turns.
+/// An author with one of three configurations by turns.
 fn author(seed: u64) -> (Configuration<'static>, Author) {
-    let configuration = if seed.is_multiple_of(2) { MEASURED } else { SMALL };
+    let configuration = [MEASURED, SMALL, MEASURED_64][seed as usize % 3];
     (configuration, Author::new(&configuration, MANNER, Random::new(seed)))
 }
 
@@ -101,10 +101,10 @@ fn fresh_blocks() -> Compared {
     let mut answers = 0;
     for round in 0..4_000 {
         let mut count = |most: u32| if random.one_in(6) { random.below(256) } else { random.within(0, most) } as u8;
-        let (tasks, regions, queues) = (count(33), count(17), count(9));
+        let (tasks, regions, queues) = (count(65), count(17), count(9));
         let mut list = |near: u8, byte: &dyn Fn(&mut Random) -> u8| -> Vec<u8> {
             let short = random.one_in(8);
-            let length = if short { random.below(40) } else { near.into() };
+            let length = if short { random.below(72) } else { near.into() };
             (0..length).map(|_| byte(&mut random)).collect()
         };
         let priorities = list(tasks, &|random| random.below(256) as u8);
@@ -262,11 +262,14 @@ fn near_the_end() -> Compared {
     Ok(answers)
 }
 
+/// The size of a block of at most 32 tasks.
+const BEFORE_T_07: usize = 2968;
+
 fn other_sizes() -> Compared {
     let block = deep(0);
     let mut random = Random::new(7);
     let mut answers = 0;
-    for size in [0, 1, 4, SIZE - 16, SIZE - 1, SIZE + 1, SIZE + 16, 2 * SIZE] {
+    for size in [0, 1, 4, BEFORE_T_07, SIZE - 16, SIZE - 1, SIZE + 1, SIZE + 16, 2 * SIZE] {
         let mut other = block.clone();
         other.resize(size, 0);
         let caller = block[3];

@@ -4,7 +4,7 @@ use std::io::{Read, Write};
 use std::process::{Command, Stdio};
 use std::thread;
 
-use plain::logs::{measured, written, Kind, MEASURED, MEASURED_SEED};
+use plain::logs::{measured, written, Kind, MEASURED, MEASURED_64, MEASURED_SEED};
 use plain::random::Random;
 
 use crate::Compared;
@@ -41,14 +41,18 @@ pub fn compare(benches: &Benches, logs: u64) -> Compared {
         );
         total += answers;
     }
-    let (calls, mix, _) = measured(MEASURED_SEED, MEASURED_CALLS);
-    let amiss = mix.amiss();
-    if !amiss.is_empty() {
-        return Err(format!("measured log: {}", amiss.join("; ")));
+    for configuration in [MEASURED, MEASURED_64] {
+        let what = format!("measured log of {} tasks", configuration.tasks);
+        let (calls, mix, _) = measured(&configuration, MEASURED_SEED, MEASURED_CALLS);
+        let amiss = mix.amiss();
+        if !amiss.is_empty() {
+            return Err(format!("{what}: {}", amiss.join("; ")));
+        }
+        let answers = compare_one(benches, &what, &written(&configuration, &calls), false)?;
+        println!("{what}, seed {MEASURED_SEED}: {answers} answers agree");
+        total += answers;
     }
-    let answers = compare_one(benches, "measured log", &written(&MEASURED, &calls), false)?;
-    println!("measured: 1 log, seed {MEASURED_SEED}: {answers} answers agree");
-    Ok(total + answers)
+    Ok(total)
 }
 
 fn compare_one(benches: &Benches, what: &str, log: &[u8], in_pieces: bool) -> Compared {
