@@ -36,27 +36,27 @@ static uint64_t configured(unsigned tasks, unsigned regions, unsigned queues, si
 /* "its 20 leaves the block all 0", "which is not valid": a call on it gets 10. */
 static void refused_with_20(const char *where, uint64_t answer)
 {
-    same_answer(where, answer, 20, NOBODY, 0, 0);
+    same_answer(where, answer, 20, NOBODY, 0, 0, NOBODY);
     memset(expected, 0, SIZE);
     same_block(where);
-    call_at(where, 0, TANKWESHO_CLEAR, 1, 0, 0, 10, NOBODY, 0, 0);
+    call_at(where, 0, TANKWESHO_CLEAR, 1, 0, 0, 10, NOBODY, 0, 0, NOBODY);
 }
 
 static void fresh_blocks(void)
 {
     /* "Task 0 is ready and elected, the others stopped, no event arrived, regions free, queues empty"; "counter 0, all idle". */
-    same_answer(HERE, configured(4, 3, 2, 4, 2), 0, 0, 0, 0);
+    same_answer(HERE, configured(4, 3, 2, 4, 2), 0, 0, 0, 0, NOBODY);
     memset(expected, 0, SIZE);
     memcpy(expected, "\4\3\2\0" "\5\0\377\7", 8);
     expected[STATE] = TANKWESHO_READY;
     memcpy(expected + BOUND, "\1\100", 2);
     same_block(HERE);
     /* "Entries past a count aren't read": longer lists, and a bound of 0 past the count, make the same block. */
-    same_answer(HERE, configured(4, 3, 2, 65, 9), 0, 0, 0, 0);
+    same_answer(HERE, configured(4, 3, 2, 65, 9), 0, 0, 0, 0, NOBODY);
     same_block(HERE);
-    same_answer(HERE, tankwesho_fresh(block, SIZE, 1, 0, 0, priorities, 1, NULL, 0), 0, 0, 0, 0);
-    same_answer(HERE, configured(33, 16, 8, 33, 8), 0, 0, 0, 0);
-    same_answer(HERE, configured(64, 16, 8, 64, 8), 0, 0, 0, 0);
+    same_answer(HERE, tankwesho_fresh(block, SIZE, 1, 0, 0, priorities, 1, NULL, 0), 0, 0, 0, 0, NOBODY);
+    same_answer(HERE, configured(33, 16, 8, 33, 8), 0, 0, 0, 0, NOBODY);
+    same_answer(HERE, configured(64, 16, 8, 64, 8), 0, 0, 0, 0, NOBODY);
     group_was_right("fresh");
 
     /* T-07: tasks 1 to 64. "Regions 0 to 16", "Queues 0 to 8", "a bound of 1 to 64"; "a list shorter than its count is out of range". */
@@ -80,14 +80,14 @@ static void busy_block(void)
 {
     static const uint8_t priority[] = {5, 5, 2, 7};
     static const uint8_t bound[] = {3, 2};
-    same_answer(HERE, tankwesho_fresh(block, SIZE, 4, 3, 2, priority, 4, bound, 2), 0, 0, 0, 0);
-    CALL(0, START, 2, 0, 0, 0, 2);
+    same_answer(HERE, tankwesho_fresh(block, SIZE, 4, 3, 2, priority, 4, bound, 2), 0, 0, 0, 0, NOBODY);
+    PUSHES(0, START, 2, 0, 0, 2, 0);
     CALL(OUTSIDE, TICK, 0, 0, 0, 0, 2);
     CALL(2, START, 1, 0, 0, 0, 2);
     CALL(2, STOP, 0, 0, 0, 0, 2);
     CALL(2, STOP, 2, 0, 0, 0, 1);
     CALL(1, ARM, 15, 1, 2147483647u, 0, 1);
-    CALL(1, START, 0, 0, 0, 0, 0);
+    PUSHES(1, START, 0, 0, 0, 0, 1);
     CALL(OUTSIDE, SIGNAL, 0, 1, 0, 0, 0);
     CALL(0, WAIT, 512, 0, 0, 1, 1);
     CALL(1, WAIT, 259, TANKWESHO_ALL, 0, 1, NOBODY);
@@ -195,7 +195,7 @@ static void each_byte_changed(const struct allowed *rows, int count)
             char where[80];
             snprintf(where, sizeof where, "%s, byte %d set to %u", HERE, place, value);
             block[place] = (uint8_t)value;
-            call_at(where, OUTSIDE, 13, 0, 0, 0, status, reported, 0, 0);
+            call_at(where, OUTSIDE, 13, 0, 0, 0, status, reported, 0, 0, NOBODY);
             query_at(where, 5, 0, 0, 0, status, reported, 0);
         }
         block[place] = kept;
@@ -216,7 +216,7 @@ static void each_pair_of_region(int region)
             snprintf(where, sizeof where, "%s, region %d with holder %u and count %u", HERE, region, holder, count);
             block[HOLDER + region] = (uint8_t)holder;
             block[ENTRIES + region] = (uint8_t)count;
-            call_at(where, OUTSIDE, 13, 0, 0, 0, valid ? 11 : 10, valid ? elected : NOBODY, 0, 0);
+            call_at(where, OUTSIDE, 13, 0, 0, 0, valid ? 11 : 10, valid ? elected : NOBODY, 0, 0, NOBODY);
         }
     block[HOLDER + region] = kept_holder;
     block[ENTRIES + region] = kept_count;
@@ -226,7 +226,7 @@ static void damaged(const char *where, int place, unsigned value)
 {
     uint8_t kept = block[place];
     block[place] = (uint8_t)value;
-    call_at(where, OUTSIDE, 13, 0, 0, 0, 10, NOBODY, 0, 0);
+    call_at(where, OUTSIDE, 13, 0, 0, 0, 10, NOBODY, 0, 0, NOBODY);
     block[place] = kept;
 }
 
@@ -269,7 +269,7 @@ static void packed_and_damaged(void)
     group_was_right("every holder and count of its three regions, and of one more");
     fresh_example();
     CALL(0, START, 1, 0, 0, 0, 0);
-    CALL(0, START, 2, 0, 0, 0, 2);
+    PUSHES(0, START, 2, 0, 0, 2, 0);
     each_byte_changed(in_free, sizeof in_free / sizeof *in_free);
     group_was_right("every byte of a block without held regions changed");
     for (int region = 0; region < 16; region++)
@@ -279,7 +279,7 @@ static void packed_and_damaged(void)
     /* "A block … not a valid table gets 10 and isn't touched", whatever is called, and before 11, 12, 13 and 14. */
     block[TIMER + UNUSED] = 1;
     for (unsigned operation = 0; operation < 256; operation++)
-        call_at(HERE, operation % 2 ? OUTSIDE : 2, operation, 99, 99, 99, 10, NOBODY, 0, 0);
+        call_at(HERE, operation % 2 ? OUTSIDE : 2, operation, 99, 99, 99, 10, NOBODY, 0, 0, NOBODY);
     for (unsigned query = 0; query < 256; query++)
         query_at(HERE, query, 2, 99, 99, 10, NOBODY, 0);
     group_was_right("every call and query on a damaged block");
@@ -313,18 +313,18 @@ static void other_sizes(void)
     memcpy(room, block, SIZE);
     memcpy(before, room, sizeof room);
     for (size_t i = 0; i < sizeof sizes / sizeof *sizes; i++) {
-        same_answer(HERE, tankwesho_fresh(room, sizes[i], 4, 3, 2, priorities, 4, bounds, 2), 10, NOBODY, 0, 0);
-        same_answer(HERE, tankwesho_fresh(room, sizes[i], 0, 99, 99, priorities, 0, bounds, 0), 10, NOBODY, 0, 0);
+        same_answer(HERE, tankwesho_fresh(room, sizes[i], 4, 3, 2, priorities, 4, bounds, 2), 10, NOBODY, 0, 0, NOBODY);
+        same_answer(HERE, tankwesho_fresh(room, sizes[i], 0, 99, 99, priorities, 0, bounds, 0), 10, NOBODY, 0, 0, NOBODY);
         for (unsigned operation = 0; operation < 256; operation++)
-            same_answer(HERE, tankwesho_call(room, sizes[i], 0, (uint8_t)operation, 1, 0, 1), 10, NOBODY, 0, 0);
+            same_answer(HERE, tankwesho_call(room, sizes[i], 0, (uint8_t)operation, 1, 0, 1), 10, NOBODY, 0, 0, NOBODY);
         for (unsigned query = 0; query < 256; query++)
-            same_answer(HERE, tankwesho_query(room, sizes[i], (uint8_t)query, 0, 1, 0), 10, NOBODY, 0, 0);
+            same_answer(HERE, tankwesho_query(room, sizes[i], (uint8_t)query, 0, 1, 0), 10, NOBODY, 0, 0, NOBODY);
         same_bytes(HERE, before, room, sizeof room);
     }
-    same_answer(HERE, tankwesho_fresh(NULL, 0, 4, 3, 2, priorities, 4, bounds, 2), 10, NOBODY, 0, 0);
-    same_answer(HERE, tankwesho_fresh(NULL, 0, 0, 0, 0, NULL, 0, NULL, 0), 10, NOBODY, 0, 0);
-    same_answer(HERE, tankwesho_call(NULL, 0, 0, TANKWESHO_CLEAR, 1, 0, 0), 10, NOBODY, 0, 0);
-    same_answer(HERE, tankwesho_query(NULL, 0, TANKWESHO_STATE, 0, 0, 0), 10, NOBODY, 0, 0);
+    same_answer(HERE, tankwesho_fresh(NULL, 0, 4, 3, 2, priorities, 4, bounds, 2), 10, NOBODY, 0, 0, NOBODY);
+    same_answer(HERE, tankwesho_fresh(NULL, 0, 0, 0, 0, NULL, 0, NULL, 0), 10, NOBODY, 0, 0, NOBODY);
+    same_answer(HERE, tankwesho_call(NULL, 0, 0, TANKWESHO_CLEAR, 1, 0, 0), 10, NOBODY, 0, 0, NOBODY);
+    same_answer(HERE, tankwesho_query(NULL, 0, TANKWESHO_STATE, 0, 0, 0), 10, NOBODY, 0, 0, NOBODY);
     group_was_right("blocks of other sizes");
 }
 

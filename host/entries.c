@@ -6,7 +6,7 @@
 static void record_routine(void)
 {
     fresh_example();
-    CALL(0, START, 2, 0, 0, 0, 2);
+    PUSHES(0, START, 2, 0, 0, 2, 0);
     CALL(2, WAIT, 1, 0, 0, 1, 0);
     CALL(0, ENTER, 0, 0, 0, 0, 0);
     CALL(0, SEND, 0, 11, 3, 0, 0);
@@ -18,7 +18,7 @@ static void record_routine(void)
     CALL(0, END, 0, 0, 0, 16, 0);
     CALL(0, SEND, 0, 12, 3, 0, 0);
     /* "free only at the matching EXIT" */
-    CALL(0, EXIT, 0, 0, 0, 0, 2);
+    PUSHES(0, EXIT, 0, 0, 0, 2, 0);
     TAKES(2, 0, 3, 2, 11, 3);
     TAKES(2, 0, 3, 2, 12, 3);
     CALL(2, END, 0, 0, 0, 0, 0);
@@ -48,7 +48,7 @@ static void deepest(void)
     for (int i = 0; i < 254; i++)
         CALL(0, EXIT, 0, 0, 0, 0, 0);
     CALL(0, WAIT, 1, 0, 0, 16, 0);
-    CALL(0, EXIT, 0, 0, 0, 0, 2);
+    PUSHES(0, EXIT, 0, 0, 0, 2, 0);
     group_was_right("255 entries of a region");
 }
 
@@ -62,7 +62,7 @@ static void not_held(void)
     CALL(0, EXIT, 2, 0, 0, 14, 0);
     CALL(OUTSIDE, EXIT, 1, 0, 0, 13, 0);
     CALL(1, EXIT, 1, 0, 0, 12, 0);
-    CALL(0, START, 2, 0, 0, 0, 2);
+    PUSHES(0, START, 2, 0, 0, 2, 0);
     CALL(2, ENTER, 0, 0, 0, 0, 2);
     CALL(2, ENTER, 0, 0, 0, 0, 2);
     CALL(2, EXIT, 1, 0, 0, 23, 2);

@@ -6,7 +6,8 @@ static uint8_t block[TANKWESHO_BLOCK_SIZE];
 
 static void print(uint64_t answer)
 {
-    printf("%02X%08X%02X%02X\n", tankwesho_status(answer), (unsigned)tankwesho_value(answer), tankwesho_key(answer), tankwesho_elected(answer));
+    printf("%02X%08X%02X%02X%02X\n", tankwesho_status(answer), (unsigned)tankwesho_value(answer), tankwesho_key(answer),
+           tankwesho_elected(answer), tankwesho_displaced(answer));
 }
 
 int main(void)

@@ -14,14 +14,16 @@ void group_was_right(const char *name)
     compared = 0;
 }
 
-void same_answer(const char *where, uint64_t answer, unsigned status, unsigned elected, uint32_t value, unsigned key)
+void same_answer(const char *where, uint64_t answer, unsigned status, unsigned elected, uint32_t value, unsigned key, unsigned displaced)
 {
     compared++;
-    if (answer == ((uint64_t)value << 32 | key << 16 | elected << 8 | status))
+    if (answer == ((uint64_t)value << 32 | (uint64_t)displaced << 24 | key << 16 | elected << 8 | status))
         return;
-    printf("WRONG at %s: expected status %u, elected %u, key %u, value %lu\n", where, status, elected, key, (unsigned long)value);
-    printf("came status %u, elected %u, key %u, value %lu; the whole answer %016llx\n", tankwesho_status(answer), tankwesho_elected(answer),
-           tankwesho_key(answer), (unsigned long)tankwesho_value(answer), (unsigned long long)answer);
+    printf("WRONG at %s: expected status %u, elected %u, key %u, value %lu, displaced %u\n", where, status, elected, key,
+           (unsigned long)value, displaced);
+    printf("came status %u, elected %u, key %u, value %lu, displaced %u; the whole answer %016llx\n", tankwesho_status(answer),
+           tankwesho_elected(answer), tankwesho_key(answer), (unsigned long)tankwesho_value(answer), tankwesho_displaced(answer),
+           (unsigned long long)answer);
     exit(1);
 }
 
@@ -38,12 +40,12 @@ void same_bytes(const char *where, const uint8_t *expected, const uint8_t *came,
 }
 
 void call_at(const char *where, unsigned caller, unsigned operation, uint32_t a, uint32_t b, uint32_t c, unsigned status, unsigned elected,
-             uint32_t value, unsigned key)
+             uint32_t value, unsigned key, unsigned displaced)
 {
     uint8_t before[SIZE];
     memcpy(before, block, SIZE);
     uint64_t answer = tankwesho_call(block, SIZE, (uint8_t)caller, (uint8_t)operation, a, b, c);
-    same_answer(where, answer, status, elected, value, key);
+    same_answer(where, answer, status, elected, value, key, displaced);
     if (status >= TANKWESHO_NOT_A_TABLE)
         same_bytes(where, before, block, SIZE);
 }
@@ -53,7 +55,7 @@ void query_at(const char *where, unsigned query, unsigned caller, uint32_t a, ui
     uint8_t before[SIZE];
     memcpy(before, block, SIZE);
     uint64_t answer = tankwesho_query(block, SIZE, (uint8_t)query, (uint8_t)caller, a, b);
-    same_answer(where, answer, status, elected, value, 0);
+    same_answer(where, answer, status, elected, value, 0, NOBODY);
     same_bytes(where, before, block, SIZE);
 }
 
@@ -61,5 +63,5 @@ void fresh_example(void)
 {
     static const uint8_t priorities[] = {5, 5, 2};
     static const uint8_t bounds[] = {2};
-    same_answer(HERE, tankwesho_fresh(block, SIZE, 3, 2, 1, priorities, 3, bounds, 1), TANKWESHO_DONE, 0, 0, 0);
+    same_answer(HERE, tankwesho_fresh(block, SIZE, 3, 2, 1, priorities, 3, bounds, 1), TANKWESHO_DONE, 0, 0, 0, NOBODY);
 }

@@ -18,14 +18,14 @@ extern uint8_t block[SIZE];
 void group_was_right(const char *name);
 
 /* Ends the program if the answer isn't made of these parts, every bit of it. */
-void same_answer(const char *where, uint64_t answer, unsigned status, unsigned elected, uint32_t value, unsigned key);
+void same_answer(const char *where, uint64_t answer, unsigned status, unsigned elected, uint32_t value, unsigned key, unsigned displaced);
 
 /* Ends the program at the first byte that differs. */
 void same_bytes(const char *where, const uint8_t *expected, const uint8_t *came, size_t length);
 
 /* A call, its answer, and if it is refused the block as it was. */
 void call_at(const char *where, unsigned caller, unsigned operation, uint32_t a, uint32_t b, uint32_t c, unsigned status, unsigned elected,
-             uint32_t value, unsigned key);
+             uint32_t value, unsigned key, unsigned displaced);
 
 /* A query, its answer, and the block as it was. */
 void query_at(const char *where, unsigned query, unsigned caller, uint32_t a, uint32_t b, unsigned status, unsigned elected, uint32_t value);
@@ -33,11 +33,14 @@ void query_at(const char *where, unsigned query, unsigned caller, uint32_t a, ui
 /* Document 01's bench examples: "Each starts fresh: priorities 5, 5, 2, two regions, one queue of bound 2." */
 void fresh_example(void);
 
-/* A call that gives no element, a RETRIEVE that gives one, and a query; an operation or query goes by its name without TANKWESHO_. */
+/* A call that gives no element and displaces nobody, an accepted one that displaces a task, a RETRIEVE that gives an element, and a query; an
+   operation or query goes by its name without TANKWESHO_. */
 #define CALL(caller, operation, a, b, c, status, elected) \
-    call_at(HERE, caller, TANKWESHO_##operation, a, b, c, status, elected, 0, 0)
+    call_at(HERE, caller, TANKWESHO_##operation, a, b, c, status, elected, 0, 0, NOBODY)
+#define PUSHES(caller, operation, a, b, c, elected, displaced) \
+    call_at(HERE, caller, TANKWESHO_##operation, a, b, c, 0, elected, 0, 0, displaced)
 #define TAKES(caller, queue, c, elected, element, criterion) \
-    call_at(HERE, caller, TANKWESHO_RETRIEVE, queue, 0, c, 0, elected, element, criterion)
+    call_at(HERE, caller, TANKWESHO_RETRIEVE, queue, 0, c, 0, elected, element, criterion, NOBODY)
 #define QUERY(query, caller, a, b, status, elected, value) query_at(HERE, TANKWESHO_##query, caller, a, b, status, elected, value)
 
 /* host/entries.c: T-04, the entries of a region. */

@@ -1,5 +1,5 @@
 /* Plays a table's firmware over include/tankwesho.h: lends a block, makes it fresh, and calls and queries it. Each expectation is worked
-   out from document 01, T-01 or T-04 and stands under its sentence. Ends with 1 at the first wrong answer or byte. */
+   out from document 01, T-01, T-04 or T-08 and stands under its sentence. Ends with 1 at the first wrong answer or byte. */
 #include <stdio.h>
 #include "expect.h"
 
@@ -24,12 +24,12 @@ static void names(void)
 static void documents_examples(void)
 {
     fresh_example();
-    CALL(0, START, 2, 0, 0, 0, 2);
+    PUSHES(0, START, 2, 0, 0, 2, 0);
     CALL(OUTSIDE, SIGNAL, 0, 1, 0, 15, 2);
     group_was_right("the whole example");
 
     fresh_example();
-    CALL(0, START, 2, 0, 0, 0, 2);
+    PUSHES(0, START, 2, 0, 0, 2, 0);
     fresh_example();
     CALL(0, START, 1, 0, 0, 0, 0);
     group_was_right("P1");
@@ -38,7 +38,7 @@ static void documents_examples(void)
     fresh_example();
     CALL(0, ENTER, 0, 0, 0, 0, 0);
     CALL(0, START, 2, 0, 0, 0, 0);
-    CALL(0, EXIT, 0, 0, 0, 0, 2);
+    PUSHES(0, EXIT, 0, 0, 0, 2, 0);
     group_was_right("P2");
 
     /* "WAIT list 3 all: status 1, elected 255. Outside SIGNAL 0 to task 0: still 255; SIGNAL 1: elected 0, events 3. With any, the first
@@ -66,7 +66,7 @@ static void documents_examples(void)
 
     /* "caller 1 with operation 10: 11; with operation 6: 12. Outside START: 13."; T-01: "Status 11 now begins at operation 13". */
     fresh_example();
-    call_at(HERE, 1, 13, 0, 0, 0, 11, 0, 0, 0);
+    call_at(HERE, 1, 13, 0, 0, 0, 11, 0, 0, 0, NOBODY);
     CALL(1, ENTER, 0, 0, 0, 12, 0);
     CALL(OUTSIDE, START, 1, 0, 0, 13, 0);
     group_was_right("P5");
@@ -164,7 +164,7 @@ static void edges(void)
     /* "caller not 255 and not the elected task": also a caller that is no task. */
     CALL(3, CLEAR, 1, 0, 0, 12, 0);
     CALL(254, CLEAR, 1, 0, 0, 12, 0);
-    call_at(HERE, 0, 255, 0, 0, 0, 11, 0, 0, 0);
+    call_at(HERE, 0, 255, 0, 0, 0, 11, 0, 0, 0, NOBODY);
     group_was_right("what doesn't exist");
 }
 
@@ -215,7 +215,7 @@ static void regions_and_queues(void)
     CALL(0, ENTER, 0, 0, 0, 0, 0);
     CALL(0, START, 2, 0, 0, 0, 0);
     CALL(0, EXIT, 1, 0, 0, 0, 0);
-    CALL(0, EXIT, 0, 0, 0, 0, 2);
+    PUSHES(0, EXIT, 0, 0, 0, 2, 0);
     CALL(2, END, 0, 0, 0, 0, 0);
     group_was_right("regions");
 
@@ -261,7 +261,7 @@ static void timers(void)
     CALL(0, TICK, 0, 0, 0, 13, 0);
     /* "ARM or DISARM of a timer that another task has armed gets 15"; "STOP and END disarm the task's timers". */
     CALL(0, ARM, 7, 0, 3, 0, 0);
-    CALL(0, START, 2, 0, 0, 0, 2);
+    PUSHES(0, START, 2, 0, 0, 2, 0);
     CALL(2, ARM, 7, 0, 3, 15, 2);
     CALL(2, DISARM, 7, 0, 0, 15, 2);
     CALL(2, STOP, 0, 0, 0, 0, 2);
@@ -271,13 +271,47 @@ static void timers(void)
     /* "all timers due at one tick signal before one election": both wake, and task 2 is the more urgent. */
     fresh_example();
     CALL(0, ARM, 0, 0, 1, 0, 0);
-    CALL(0, START, 2, 0, 0, 0, 2);
+    PUSHES(0, START, 2, 0, 0, 2, 0);
     CALL(2, ARM, 1, 0, 1, 0, 2);
     CALL(2, WAIT, 1, 0, 0, 1, 0);
     CALL(0, WAIT, 1, 0, 0, 1, NOBODY);
     CALL(OUTSIDE, TICK, 0, 0, 0, 0, 2);
     QUERY(STATE, 0, 0, 0, 0, 2, TANKWESHO_READY);
     group_was_right("two timers at one tick");
+}
+
+/* T-08: "the former elected task if it is still ready and no longer elected, else 255"; "a refusal gives 255". CALL says that nobody is
+   displaced. */
+static void pushed_aside(void)
+{
+    fresh_example();
+    PUSHES(0, START, 2, 0, 0, 2, 0);
+    CALL(0, CLEAR, 1, 0, 0, 12, 2);
+    /* Task 2 waits, ends or stops itself, and so is no longer ready. */
+    CALL(2, WAIT, 1, 0, 0, 1, 0);
+    PUSHES(OUTSIDE, SIGNAL, 0, 2, 0, 2, 0);
+    CALL(2, END, 0, 0, 0, 0, 0);
+    PUSHES(0, START, 2, 0, 0, 2, 0);
+    CALL(2, STOP, 2, 0, 0, 0, 0);
+    /* The holder stays elected, and is pushed aside at the last EXIT. */
+    CALL(0, ENTER, 1, 0, 0, 0, 0);
+    CALL(0, START, 2, 0, 0, 0, 0);
+    PUSHES(0, EXIT, 1, 0, 0, 2, 0);
+    /* STOP of another: the caller stays elected. */
+    CALL(2, START, 1, 0, 0, 0, 2);
+    CALL(2, STOP, 0, 0, 0, 0, 2);
+    CALL(2, END, 0, 0, 0, 0, 1);
+    /* "of equals the lowest task number", so that task 0 pushes task 1 aside: when it starts, and when its timer rings. */
+    PUSHES(1, START, 0, 0, 0, 0, 1);
+    CALL(0, ARM, 0, 0, 1, 0, 0);
+    CALL(0, WAIT, 1, 0, 0, 1, 1);
+    PUSHES(OUTSIDE, TICK, 0, 0, 0, 0, 1);
+    QUERY(STATE, 0, 1, 0, 0, 0, TANKWESHO_READY);
+    /* Nobody was elected before the signal. */
+    fresh_example();
+    CALL(0, WAIT, 2, 0, 0, 1, NOBODY);
+    CALL(OUTSIDE, SIGNAL, 1, 0, 0, 0, 0);
+    group_was_right("who was pushed aside");
 }
 
 /* "Queries change nothing"; query_at compares the block each time. */
@@ -331,6 +365,7 @@ int main(void)
     regions_and_queues();
     try_entries();
     timers();
+    pushed_aside();
     queries();
     try_blocks();
     puts("the firmware got every answer that the documents give");

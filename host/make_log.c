@@ -7,7 +7,7 @@
 #include <sys/wait.h>
 #include <unistd.h>
 
-enum { TASKS = 32, REGIONS = 16, QUEUES = 8, BOUND = 64, ANSWER = 15, OUTSIDE = 255 };
+enum { TASKS = 32, REGIONS = 16, QUEUES = 8, BOUND = 64, ANSWER = 17, OUTSIDE = 255 };
 enum { START, STOP, END, SIGNAL, WAIT, CLEAR, ENTER, EXIT, SEND, RETRIEVE };
 
 static uint32_t state;

@@ -17,7 +17,7 @@ extern "C" {
 /* The caller that is no task. It may SIGNAL and TICK. */
 #define TANKWESHO_OUTSIDE 255
 
-/* Reported as elected where no task is ready, and with NOT_A_TABLE and BAD_CONFIGURATION. */
+/* Reported as elected where no task is ready, and with NOT_A_TABLE and BAD_CONFIGURATION; as displaced where no task was pushed aside. */
 #define TANKWESHO_NOBODY 255
 
 enum tankwesho_operation {
@@ -81,7 +81,7 @@ enum tankwesho_status {
    don't disturb each other, since nothing is kept outside the block. Queries alone may run side by side on one block.
    Nothing needs to be checked first: any bytes, any length and any numbers get their answer. A pointer must point to as many bytes as the
    length behind it says; with length 0 it is never followed, and may be null.
-   Each returns an answer, one number of 64 bits; the four helpers below take it apart. */
+   Each returns an answer, one number of 64 bits; the five helpers below take it apart. */
 
 /* Makes the table of a configuration in the block: task 0 is ready and elected, the others are stopped. It looks only at the block's size,
    never at what stands in it.
@@ -118,6 +118,13 @@ static inline uint8_t tankwesho_elected(uint64_t answer)
 static inline uint8_t tankwesho_key(uint64_t answer)
 {
     return (uint8_t)(answer >> 16 & 255);
+}
+
+/* the displaced task, whose registers are to be saved: it was elected before the call, is still ready and no longer elected. Else
+   TANKWESHO_NOBODY, as with every refusal, every query and tankwesho_fresh; */
+static inline uint8_t tankwesho_displaced(uint64_t answer)
+{
+    return (uint8_t)(answer >> 24 & 255);
 }
 
 /* the element that RETRIEVE took or the reply of a query, else 0. */

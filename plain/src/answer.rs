@@ -1,6 +1,6 @@
 //! Calls and answers, and the status numbers.
 
-/// The caller that stands for the outside, and the elected task where there is none.
+/// The caller that stands for the outside; also the elected and the displaced task where there is none.
 pub const OUTSIDE: u8 = 255;
 
 /// A status number. Which of two refusals goes first is said in `calls`, and is not the order of the numbers.
@@ -35,28 +35,31 @@ pub struct Call {
     pub c: u32,
 }
 
-/// The answer to a call, a query or a line. `elected` is the number that is reported, 255 for none.
+/// The answer to a call, a query or a line. `elected` and `displaced` are the numbers that are reported, 255 for none.
 #[derive(Clone, Copy, Debug, PartialEq, Eq)]
 pub struct Answer {
     pub status: Status,
     pub value: u32,
     pub key: u8,
     pub elected: u8,
+    pub displaced: u8,
 }
 
 impl Answer {
-    /// A status alone.
+    /// A status alone: nobody was displaced.
     pub fn bare(status: Status, elected: u8) -> Self {
         Answer {
             status,
             value: 0,
             key: 0,
             elected,
+            displaced: OUTSIDE,
         }
     }
 
-    /// The answer as one number: status, elected and key a byte each, a byte of 0, then the value.
+    /// The answer as one number: status, elected, key and displaced a byte each, then the value.
     pub fn packed(self) -> u64 {
-        u64::from(self.status as u8) | u64::from(self.elected) << 8 | u64::from(self.key) << 16 | u64::from(self.value) << 32
+        let bytes = u32::from_le_bytes([self.status as u8, self.elected, self.key, self.displaced]);
+        u64::from(bytes) | u64::from(self.value) << 32
     }
 }

@@ -45,7 +45,7 @@ impl Operation {
     }
 }
 
-/// What an accepted call answers, apart from the elected task.
+/// What an accepted call answers, apart from the elected and the displaced task.
 struct Reply {
     status: Status,
     value: u32,
@@ -100,12 +100,14 @@ impl Table {
 
     /// One call on a table that is known to be valid; on another it may panic.
     pub fn call_on_valid(&mut self, call: &Call) -> Answer {
+        let former = self.elected;
         match self.perform(call) {
             Ok(Reply { status, value, key }) => Answer {
                 status,
                 value,
                 key,
                 elected: self.reported(),
+                displaced: self.displaced(former).unwrap_or(OUTSIDE),
             },
             Err(status) => Answer::bare(status, self.reported()),
         }

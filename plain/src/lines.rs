@@ -11,7 +11,7 @@ pub const LONGEST: usize = 192;
 /// The digits of a call line.
 pub const CALL_DIGITS: usize = 28;
 /// The characters of an answer line, with its line feed.
-pub const ANSWER_CHARACTERS: usize = 15;
+pub const ANSWER_CHARACTERS: usize = 17;
 
 const DIGITS: &[u8; 16] = b"0123456789ABCDEF";
 
@@ -68,10 +68,10 @@ pub fn configuration_line(configuration: &Configuration) -> String {
 
 /// An answer as a line, with its line feed.
 pub fn answer_line(answer: Answer) -> [u8; ANSWER_CHARACTERS] {
-    let number =
-        u64::from(answer.status as u8) << 48 | u64::from(answer.value) << 16 | u64::from(answer.key) << 8 | u64::from(answer.elected);
+    let bytes = u32::from_be_bytes([0, answer.key, answer.elected, answer.displaced]);
+    let number = u64::from(answer.status as u8) << 56 | u64::from(answer.value) << 24 | u64::from(bytes);
     let mut line = [b'\n'; ANSWER_CHARACTERS];
-    for (place, character) in line[..14].iter_mut().rev().enumerate() {
+    for (place, character) in line[..ANSWER_CHARACTERS - 1].iter_mut().rev().enumerate() {
         *character = DIGITS[(number >> (4 * place)) as usize & 15];
     }
     line

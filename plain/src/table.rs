@@ -176,4 +176,9 @@ impl Table {
     pub fn election(&self) -> Option<u8> {
         self.holder().or_else(|| self.most_urgent())
     }
+
+    /// Who was pushed aside: the former elected task, if it is still ready and no longer elected.
+    pub fn displaced(&self, former: Option<u8>) -> Option<u8> {
+        former.filter(|&task| self.elected != former && self.tasks[usize::from(task)].state == State::READY)
+    }
 }

@@ -1,4 +1,4 @@
-//! The examples of document 01, and cases of T-01, T-03 and T-04, each by its sentence.
+//! The examples of document 01, and cases of T-01, T-03, T-04, T-06 and T-08, each by its sentence.
 
 use plain::answer::{Answer, Call, Status};
 use plain::block;
@@ -184,7 +184,7 @@ fn t03_blocks_come_back_and_others_are_not_touched() {
     let bytes = table.packed();
     assert_eq!(bytes.len(), block::SIZE);
     assert_eq!(Table::unpacked(&bytes), Some(table));
-    assert_eq!(block::query(&bytes, 5, 0, 0, 0), 11);
+    assert_eq!(block::query(&bytes, 5, 0, 0, 0), 11 | 255 << 24);
     let mut short_block = bytes[1..].to_vec();
     let tick = Call {
         caller: OUT,
@@ -193,11 +193,11 @@ fn t03_blocks_come_back_and_others_are_not_touched() {
         b: 0,
         c: 0,
     };
-    assert_eq!(block::call(&mut short_block, &tick), 10 | 255 << 8);
+    assert_eq!(block::call(&mut short_block, &tick), 10 | 255 << 8 | 255 << 24);
     assert_eq!(short_block, &bytes[1..]);
     let mut unused = bytes.clone();
     unused[block::SIZE - 5] = 1;
-    assert_eq!(block::query(&unused, 5, 0, 0, 0), 10 | 255 << 8);
+    assert_eq!(block::query(&unused, 5, 0, 0, 0), 10 | 255 << 8 | 255 << 24);
 }
 
 #[test]
@@ -228,6 +228,63 @@ fn t06_an_exit_that_was_never_entered_gets_23() {
     assert_eq!(short(&mut table, 0, EXIT, 0, 0, 0), (23, 0));
 }
 
+/// Elected and displaced task of a call that is accepted. Its c is 1, which ARM alone reads here: the delay.
+fn pushed(table: &mut Table, caller: u8, operation: u8, a: u32, b: u32) -> (u8, u8) {
+    let answer = made(table, caller, operation, a, b, 1);
+    assert!(matches!(answer.status, Status::Done | Status::Waits), "{answer:?}");
+    (answer.elected, answer.displaced)
+}
+
+#[test]
+fn t08_the_former_elected_task_if_it_is_still_ready_and_no_longer_elected() {
+    let mut table = fresh();
+    assert_eq!(pushed(&mut table, 0, START, 2, 0), (2, 0));
+    assert_eq!(pushed(&mut table, 2, WAIT, 1, 0), (0, OUT));
+    assert_eq!(pushed(&mut table, 0, SIGNAL, 0, 2), (2, 0));
+    assert_eq!(pushed(&mut table, 2, END, 0, 0), (0, OUT));
+    // The holder stays elected, and is pushed aside at the last EXIT.
+    assert_eq!(pushed(&mut table, 0, ENTER, 0, 0), (0, OUT));
+    assert_eq!(pushed(&mut table, 0, START, 2, 0), (0, OUT));
+    assert_eq!(made(&mut table, 2, CLEAR, 1, 0, 0), Answer::bare(Status::NotElected, 0));
+    assert_eq!(pushed(&mut table, 0, EXIT, 0, 0), (2, 0));
+    assert_eq!(pushed(&mut table, 2, STOP, 2, 0), (0, OUT));
+    // A tick pushes aside as a signal does: of equals the lowest number.
+    assert_eq!(pushed(&mut table, 0, START, 1, 0), (0, OUT));
+    assert_eq!(pushed(&mut table, 0, ARM, 0, 0), (0, OUT));
+    assert_eq!(pushed(&mut table, 0, WAIT, 1, 0), (1, OUT));
+    assert_eq!(pushed(&mut table, OUT, TICK, 0, 0), (0, 1));
+    // Nobody was elected before.
+    let mut table = fresh();
+    assert_eq!(pushed(&mut table, 0, WAIT, 1, 0), (OUT, OUT));
+    assert_eq!(pushed(&mut table, OUT, SIGNAL, 0, 0), (0, OUT));
+}
+
+#[test]
+fn t08_a_refusal_a_query_and_a_configuration_give_255() {
+    let mut table = fresh();
+    assert_eq!(made(&mut table, 0, START, 0, 0, 0).displaced, OUT);
+    assert_eq!(table.query(Query::State { task: 0 }).displaced, OUT);
+    let mut block = vec![0; block::SIZE];
+    let configuration = |tasks| Configuration {
+        tasks,
+        regions: 0,
+        queues: 0,
+        priorities: &[5, 2],
+        bounds: &[],
+    };
+    assert_eq!(block::fresh(&mut block, &configuration(0)), 20 | 255 << 8 | 255 << 24);
+    assert_eq!(block::fresh(&mut block, &configuration(2)), 255 << 24);
+    let start = Call {
+        caller: 0,
+        operation: START,
+        a: 1,
+        b: 0,
+        c: 0,
+    };
+    assert_eq!(block::call(&mut block, &start), 1 << 8);
+    assert_eq!(block::call(&mut block, &start), 12 | 1 << 8 | 255 << 24);
+}
+
 fn answered(input: &str) -> String {
     let mut output = Vec::new();
     run(input.as_bytes(), &mut output).unwrap();
@@ -237,7 +294,7 @@ fn answered(input: &str) -> String {
 #[test]
 fn whole_example_of_document_01() {
     let input = "03020105050202\n0000000000020000000000000000\nFF03000000000000000100000000\n";
-    assert_eq!(answered(input), "00000000000000\n00000000000002\n0F000000000002\n");
+    assert_eq!(answered(input), "00000000000000FF\n0000000000000200\n0F000000000002FF\n");
     assert_eq!(answered(""), "");
 }
 
@@ -257,8 +314,8 @@ fn odd_first_lines() {
         ("03020105050200\n", "14"),
         ("03020105050241\n", "14"),
     ] {
-        assert_eq!(answered(line), format!("{status}0000000000FF\n"), "{line:?}");
+        assert_eq!(answered(line), format!("{status}0000000000FFFF\n"), "{line:?}");
     }
     let long = "0".repeat(193) + "\n0000000000020000000000000000\nX\n";
-    assert_eq!(answered(&long), "150000000000FF\n0A0000000000FF\n150000000000FF\n");
+    assert_eq!(answered(&long), "150000000000FFFF\n0A0000000000FFFF\n150000000000FFFF\n");
 }

@@ -8,7 +8,7 @@ use lib.Dec.{eqb, ltb, leb}
 use lib.ListN.{length, take, drop, getD, set, replicate, length-drop}
 use lib.Seq.{take-length, take-all, length-take-le, take-append-le, drop-append-le}
 use borrow.Author.Tests.{lt-ltb, le-leb, eq-eqb, ne-eqb, leb-true, leb-false, not-true, not-false}
-use Rattle.rules.specs.Numbers.{taskRoom, priorityEnd, queueRoom}
+use Rattle.rules.specs.Numbers.{taskRoom, priorityEnd, queueRoom, nobody}
 use Rattle.rules.specs.Words.{all, every, padded}
 use Rattle.rules.specs.Validity.{countsInRange, boundInRange}
 use Rattle.rules.specs.Answers.{done, refused}
@@ -97,7 +97,7 @@ part-padded room from to xs h k =
 fresh-bounds : (tasks regions queues : ℕ) (priorities bounds : List ℕ) → countsInRange tasks regions queues ≡ true → length priorities ≡ tasks
     → length bounds ≡ queues → every (λ n. ltb n priorityEnd) priorities ≡ true
     → fresh tasks regions queues priorities bounds
-    ≡ cond (every boundInRange bounds) (done (freshTable tasks regions queues priorities bounds) 0 0 0) (refused zeroTable 20)
+    ≡ cond (every boundInRange bounds) (done (freshTable tasks regions queues priorities bounds) 0 0 0 nobody) (refused zeroTable 20)
 unfolding fresh configurationInRange all
 fresh-bounds tasks regions queues priorities bounds c p b s =
     let ps : take tasks priorities ≡ priorities = take-all tasks priorities (omega arith) in
@@ -158,7 +158,7 @@ module _ (line a : List ℕ) (e : a ≡ padded numberRoom 0 (numbers line)) (p :
         where
           go : (b : Bool) → every boundInRange (boundsIn line) ≡ b → length line ≡ 6 + 2 * (tasksIn line + queuesIn line)
               → countsInRange (tasksIn line) (regionsIn line) (queuesIn line) ≡ true
-              → cond (every boundInRange (boundsIn line)) (done (freshTable (tasksIn line) (regionsIn line) (queuesIn line) (prioritiesIn line) (boundsIn line)) 0 0 0) (refused zeroTable 20)
+              → cond (every boundInRange (boundsIn line)) (done (freshTable (tasksIn line) (regionsIn line) (queuesIn line) (prioritiesIn line) (boundsIn line)) 0 0 0 nobody) (refused zeroTable 20)
               ≡ firstDone line
           go true d fits right = simp (p, long, right, eq-eqb (length line) (6 + 2 * (tasksIn line + queuesIn line)) fits, d)
           go false d fits right = simp (p, long, right, eq-eqb (length line) (6 + 2 * (tasksIn line + queuesIn line)) fits, d)

@@ -5,6 +5,7 @@ use mathlib.Core.List.{List, [], _∷_}
 use lib.Dec.{eqb, ltb, leb}
 use lib.ListN.{length, getD, take, drop}
 use Rattle.rules.specs.declared.Done.{Done}
+use Rattle.rules.specs.Numbers.{nobody}
 use Rattle.rules.specs.Words.{isZero, every, Reason, when, first}
 use Rattle.rules.specs.Validity.{countsInRange, boundInRange}
 use Rattle.rules.specs.Answers.{done}
@@ -55,5 +56,5 @@ firstReasons line =
 unfoldable pub firstDone : List ℕ → Done
 firstDone line =
     cond (isZero (first (firstReasons line)))
-    (done (freshTable (tasksIn line) (regionsIn line) (queuesIn line) (prioritiesIn line) (boundsIn line)) 0 0 0)
+    (done (freshTable (tasksIn line) (regionsIn line) (queuesIn line) (prioritiesIn line) (boundsIn line)) 0 0 0 nobody)
     (firstRefused (first (firstReasons line)))

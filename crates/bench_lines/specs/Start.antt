@@ -16,4 +16,4 @@ start = standing zeroTable false
 
 -- "After a refused first line there is a table of zeros"
 unfoldable pub firstRefused : ℕ → Done
-firstRefused status = record { table = zeroTable; answer = record { status = status; value = 0; key = 0; elected = nobody } }
+firstRefused status = record { table = zeroTable; answer = record { status = status; value = 0; key = 0; elected = nobody; displaced = nobody } }

@@ -21,7 +21,8 @@ use Rattle.bench_lines.specs.First.{plain, firstDone}
 
 -- "a malformed line reports the stored elected task, or 255 with the zero table", which is the one with no task
 unfoldable pub malformedAnswer : ℕ → ℕ → Answer
-malformedAnswer tasks elected = record { status = 21; value = 0; key = 0; elected = cond (isZero tasks) nobody elected }
+malformedAnswer tasks elected =
+    record { status = 21; value = 0; key = 0; elected = cond (isZero tasks) nobody elected; displaced = nobody }
 
 unfoldable pub malformed : Table → Done
 malformed t = record { table = t; answer = malformedAnswer (t .tasks) (t .elected) }

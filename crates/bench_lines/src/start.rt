@@ -43,6 +43,7 @@ pub(crate) fn first_refused(status: u8) -> Done
             value: 0,
             key: 0,
             elected: NOBODY,
+            displaced: NOBODY,
         },
     }
 }
@@ -57,5 +58,6 @@ pub fn malformed_answer(tasks: u8, elected: u8) -> Answer
         value: 0,
         key: 0,
         elected: who,
+        displaced: NOBODY,
     }
 }

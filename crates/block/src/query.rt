@@ -29,6 +29,7 @@ fn unknown_query(t: Table) -> Answer
             value: 0,
             key: 0,
             elected: t.elected,
+            displaced: NOBODY,
         };
     }
     Answer {
@@ -36,6 +37,7 @@ fn unknown_query(t: Table) -> Answer
         value: 0,
         key: 0,
         elected: NOBODY,
+        displaced: NOBODY,
     }
 }
 

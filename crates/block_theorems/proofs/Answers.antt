@@ -1,7 +1,7 @@
 -- An answer is read back from its number; the numbers of answers that the rules give are of their types.
 use Prim.Native.Nat.{ℕ, _<_}
 use mathlib.Core.Path.{_≡_, refl, sym, ap, _∙_}
-use mathlib.Core.Bool.{Bool, true, false, cond, _||_}
+use mathlib.Core.Bool.{Bool, true, false, cond, not, _&&_, _||_}
 use mathlib.Core.List.{List, [], _∷_}
 use native.Mathlib.Omega.{arith}
 use lib.Dec.{eqb, ltb, leb}
@@ -10,8 +10,10 @@ use borrow.Author.Tests.{ltb-true, lt-ltb}
 use Rattle.rules.specs.declared.Table.{Table}
 use Rattle.rules.specs.declared.Call.{Call}
 use Rattle.rules.specs.declared.Answer.{Answer}
+use Rattle.rules.specs.Numbers.{nobody}
 use Rattle.rules.specs.Words.{isZero, all, every, Reason, first}
 use Rattle.rules.specs.Events.{met}
+use Rattle.rules.specs.Election.{readyAt, displacedBy}
 use Rattle.rules.specs.Tables.{taskOf, boundOf, queueOf, settled}
 use Rattle.rules.specs.Answers.{reported, replied}
 use Rattle.rules.specs.Validity.{valid}
@@ -34,18 +36,20 @@ use Rattle.block_theorems.proofs.Fitting.{Fitting, elected-fits, fittin
 use Rattle.block_theorems.proofs.Packs.{unpack-then-pack}
 use Rattle.block_theorems.proofs.Elements.{effect-small}
 
-same-answer : (r s : Answer) → r .status ≡ s .status → r .value ≡ s .value → r .key ≡ s .key → r .elected ≡ s .elected → r ≡ s
-same-answer r s a b c d = λ i. record { status = a i; value = b i; key = c i; elected = d i }
+same-answer : (r s : Answer) → r .status ≡ s .status → r .value ≡ s .value → r .key ≡ s .key → r .elected ≡ s .elected
+    → r .displaced ≡ s .displaced → r ≡ s
+same-answer r s a b c d e = λ i. record { status = a i; value = b i; key = c i; elected = d i; displaced = e i }
 
 pub answer-read-back : AnswerReadBack
 unfolding answerNumber answerInRange
 answer-read-back r h =
-    let (s, (e, (k, (v, u)))) = given _ h in
+    let (s, (e, (k, (d, (v, u))))) = given _ h in
     let status = ltb-true (r .status) byteEnd s in
     let elected = ltb-true (r .elected) byteEnd e in
     let key = ltb-true (r .key) byteEnd k in
+    let displaced = ltb-true (r .displaced) byteEnd d in
     let value = ltb-true (r .value) wordEnd v in
-    same-answer (answerIn (answerNumber r)) r (omega arith) (omega arith) (omega arith) (omega arith)
+    same-answer (answerIn (answerNumber r)) r (omega arith) (omega arith) (omega arith) (omega arith) (omega arith)
 
 pub one-number : OneNumber
 one-number r s h k e = sym (answer-read-back r h) ∙ ap answerIn e ∙ answer-read-back s k
@@ -59,11 +63,20 @@ reported-fits t status h = go (eqb status 10 || eqb status 20) refl
     go true e = rw e refl
     go false e = rw e h
 
-answer-fits : (t : Table) (status value key : ℕ) → fits 1 (t .elected) ≡ true → status < byteEnd → value < wordEnd → key < byteEnd
-    → answerInRange (record { status = status; value = value; key = key; elected = reported t status }) ≡ true
+answer-fits : (t : Table) (status value key displaced : ℕ) → fits 1 (t .elected) ≡ true → status < byteEnd → value < wordEnd → key < byteEnd → displaced < byteEnd
+    → answerInRange (record { status = status; value = value; key = key; elected = reported t status; displaced = displaced }) ≡ true
 unfolding answerInRange
-answer-fits t status value key h s v k =
-    shown _ (lt-ltb status byteEnd s, (reported-fits t status h, (lt-ltb key byteEnd k, (lt-ltb value wordEnd v, tt))))
+answer-fits t status value key displaced h s v k d =
+    shown _ (lt-ltb status byteEnd s, (reported-fits t status h, (lt-ltb key byteEnd k, (lt-ltb displaced byteEnd d, (lt-ltb value wordEnd v, tt)))))
+
+-- the one displaced is the former elected task or nobody
+displaced-fits : (former : ℕ) (states : List ℕ) (elected : ℕ) → former < byteEnd → displacedBy former states elected < byteEnd
+unfolding displacedBy
+displaced-fits former states elected h = go (readyAt states former && not (eqb former elected))
+  where
+    go : (b : Bool) → cond b former nobody < byteEnd
+    go true = h
+    go false = omega arith
 
 abbrev lowStatus : Reason → Bool
 lowStatus r = ltb (r .status) byteEnd
@@ -93,12 +106,13 @@ module _ (t : Table) (v : valid t ≡ true) (h : elementsInRange t ≡ true) whe
           let u = settled (effect t c .table) in
           let right : valid u ≡ true = rw z at (valid-kept t c v) in
           let (status, element, criterion) = effect-small t h v c in
-          rw z (answer-fits u (effect t c .status) _ _ (elected-fits u (parts-of u right)) (omega arith) element criterion)
-      go false z = let l = refusal-low t c in rw z (answer-fits t (refusal t c) 0 0 (fit .elected) (omega arith) (omega arith) (omega arith))
+          let was : t .elected < byteEnd = ltb-true (t .elected) byteEnd (fit .elected) in
+          rw z (answer-fits u (effect t c .status) _ _ _ (elected-fits u (parts-of u right)) (omega arith) element criterion (displaced-fits (t .elected) _ _ was))
+      go false z = let l = refusal-low t c in rw z (answer-fits t (refusal t c) 0 0 nobody (fit .elected) (omega arith) (omega arith) (omega arith) (omega arith))
 
   -- a query's reply, 0 where it is refused
   reply-fits : (status value : ℕ) → status < byteEnd → value < wordEnd → answerInRange (replied t status value) ≡ true
-  reply-fits status value l k = answer-fits t status _ 0 (fit .elected) (omega arith) (small (isZero status)) (omega arith)
+  reply-fits status value l k = answer-fits t status _ 0 nobody (fit .elected) (omega arith) (small (isZero status)) (omega arith) (omega arith)
     where
       small : (b : Bool) → cond b value 0 < wordEnd
       small true = k

@@ -10,7 +10,7 @@ use lib.ListN.{length, replicate}
 use borrow.Author.Tests.{eqb-false, ltb-true}
 use Rattle.rules.specs.declared.Table.{Table}
 use Rattle.rules.specs.declared.Call.{Call}
-use Rattle.rules.specs.Numbers.{storeSize, SEND}
+use Rattle.rules.specs.Numbers.{storeSize, nobody, SEND}
 use Rattle.rules.specs.Words.{isZero}
 use Rattle.rules.specs.Answers.{done, refused}
 use Rattle.rules.specs.Validity.{valid}
@@ -105,12 +105,12 @@ module _ (block : List ℕ) (tasks regions queues : ℕ) (priorities bounds : Li
 
   -- by size and configuration
   fresh-stored : freshBlock block tasks regions queues priorities bounds
-      ≡ cond (eqb (length block) blockSize) (cond inRange (stored (done table 0 0 0)) (stored (refused zeroTable 20))) (untouched block)
+      ≡ cond (eqb (length block) blockSize) (cond inRange (stored (done table 0 0 0 nobody)) (stored (refused zeroTable 20))) (untouched block)
   unfolding freshBlock fresh
   fresh-stored = go inRange refl
     where
       go : (b : Bool) → inRange ≡ b → freshBlock block tasks regions queues priorities bounds
-          ≡ cond (eqb (length block) blockSize) (cond inRange (stored (done table 0 0 0)) (stored (refused zeroTable 20))) (untouched block)
+          ≡ cond (eqb (length block) blockSize) (cond inRange (stored (done table 0 0 0 nobody)) (stored (refused zeroTable 20))) (untouched block)
       go true e = simp e
       go false e = simp e
 
@@ -118,7 +118,7 @@ module _ (block : List ℕ) (tasks regions queues : ℕ) (priorities bounds : Li
   unfolding freshTable
   table-packs e = pack-then-unpack table (fresh-valid tasks regions queues priorities bounds e) (every-replicate isWord storeSize 0 refl)
 
-  made-fresh : inRange ≡ true → MadeBy (stored (done table 0 0 0))
+  made-fresh : inRange ≡ true → MadeBy (stored (done table 0 0 0 nobody))
   unfolding answerNumber freshTable
   made-fresh e =
       let p = table-packs e in
@@ -140,7 +140,7 @@ module _ (block : List ℕ) (tasks regions queues : ℕ) (priorities bounds : Li
   made = subst MadeBy (sym fresh-stored) (go (eqb (length block) blockSize) inRange refl refl)
     where
       go : (b d : Bool) → eqb (length block) blockSize ≡ b → inRange ≡ d → MadeBy
-          (cond (eqb (length block) blockSize) (cond inRange (stored (done table 0 0 0)) (stored (refused zeroTable 20))) (untouched block))
+          (cond (eqb (length block) blockSize) (cond inRange (stored (done table 0 0 0 nobody)) (stored (refused zeroTable 20))) (untouched block))
       go true true e f = rw (e, f) (made-fresh f)
       go true false e f = rw (e, f) made-zeros
       go false d e f = rw e (made-none (eqb-false _ _ e))

@@ -14,7 +14,7 @@ use Rattle.packing.specs.Answers.{answerNumber}
 use Rattle.layout.specs.Calls.{notATable, freshBlock, callBlock, query, queryBlock}
 use Rattle.block_theorems.specs.Ranges.{areBytes, answerInRange}
 
--- ---- an answer's number taken apart: bits 0 to 7, 8 to 15, 16 to 23, and the upper half
+-- ---- an answer's number taken apart: bits 0 to 7, 8 to 15, 16 to 23, 24 to 31, and the upper half
 
 abbrev pub statusIn : ℕ → ℕ
 statusIn n = n % 256
@@ -25,11 +25,14 @@ electedIn n = n / 256 % 256
 abbrev pub keyIn : ℕ → ℕ
 keyIn n = n / 65536 % 256
 
+abbrev pub displacedIn : ℕ → ℕ
+displacedIn n = n / 16777216 % 256
+
 abbrev pub valueIn : ℕ → ℕ
 valueIn n = n / 4294967296
 
 abbrev pub answerIn : ℕ → Answer
-answerIn n = record { status = statusIn n; value = valueIn n; key = keyIn n; elected = electedIn n }
+answerIn n = record { status = statusIn n; value = valueIn n; key = keyIn n; elected = electedIn n; displaced = displacedIn n }
 
 abbrev pub AnswerReadBack : Type 0
 AnswerReadBack = (r : Answer) → answerInRange r ≡ true → answerIn (answerNumber r) ≡ r

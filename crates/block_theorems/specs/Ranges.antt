@@ -29,4 +29,4 @@ callInRange c =
 
 -- "a status, a value, a key and the elected task"
 unfoldable pub answerInRange : Answer → Bool
-answerInRange r = all (ltb (r .status) byteEnd ∷ ltb (r .elected) byteEnd ∷ ltb (r .key) byteEnd ∷ ltb (r .value) wordEnd ∷ [])
+answerInRange r = all (ltb (r .status) byteEnd ∷ ltb (r .elected) byteEnd ∷ ltb (r .key) byteEnd ∷ ltb (r .displaced) byteEnd ∷ ltb (r .value) wordEnd ∷ [])

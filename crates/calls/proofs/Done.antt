@@ -2,33 +2,34 @@
 use Prim.Native.Nat.{ℕ, zero, suc, _+_, _-_, _%_, _<_, _≤_}
 use mathlib.Core.Path.{_≡_, refl, sym, ap, ap₂, _∙_}
 use mathlib.Core.Logic.{_≢_}
-use mathlib.Core.Bool.{Bool, true, false, cond, not, _&&_, _||_}
+use mathlib.Core.Bool.{Bool, true, false, cond, not, _&&_, _||_, and-false}
 use mathlib.Core.List.{List, [], _∷_, map}
 use native.Mathlib.Omega.{arith}
 use native.Mathlib.Numerals.{add-one}
 use native.Mathlib.Nat.{mod-eq-of-lt}
 use lib.Dec.{eqb, ltb}
 use lib.ListN.{getD, set, length}
-use borrow.Author.Tests.{ne-eqb, ltb-true, ltb-false, leb-false, not-false}
+use borrow.Author.Tests.{eq-eqb, ne-eqb, ltb-true, ltb-false, leb-false, not-false}
 use Rattle.rules.specs.declared.Task.{Task}
 use Rattle.rules.specs.declared.Region.{Region}
 use Rattle.rules.specs.declared.Timer.{Timer}
 use Rattle.rules.specs.declared.Table.{Table}
 use Rattle.rules.specs.declared.Call.{Call}
+use Rattle.rules.specs.declared.Elected.{Elected}
 use Rattle.rules.specs.declared.Done.{Done}
 use Rattle.rules.specs.Numbers.{taskRoom, regionRoom, queueRoom, places, storeSize, criterionEnd, timerRoom, nobody, WAIT, ENTER, SEND, RETRIEVE, ARM, TICK}
 use Rattle.rules.specs.Events.{met}
 use Rattle.rules.specs.Regions.{held}
 use Rattle.rules.specs.Queues.{Pair, pair, firstPlace}
 use Rattle.rules.specs.Timers.{later, rung}
-use Rattle.rules.specs.Election.{electedBy}
-use Rattle.rules.specs.Tables.{taskOf, regionOf, timerOf, lengthOf, boundOf, queueOf, withTask, withRegion, withElected, electionOf, withStore, withTimers}
+use Rattle.rules.specs.Election.{displacedBy, electBy}
+use Rattle.rules.specs.Tables.{taskOf, regionOf, timerOf, lengthOf, boundOf, queueOf, withTask, withRegion, withElected, electOf, withStore, withTimers}
 use Rattle.rules.specs.Answers.{done}
 use Rattle.rules.specs.Refusals.{missing, refusal}
 use Rattle.rules.specs.Effects.{Effect, plain, ticked, effect}
 use Rattle.rules.specs.Step.{accepted, step}
 use Rattle.rules.proofs.Bools.{or-right}
-use Rattle.rules.proofs.Election.{election-by}
+use Rattle.rules.proofs.Election.{elect-by}
 use Rattle.rules.proofs.Queues.{Sound, queue-length, sent-stored}
 use Rattle.rules.proofs.Rules.{Parts}
 use Rattle.rules.proofs.ValidQueues.{sound, bound-below}
@@ -49,18 +50,23 @@ use Rattle.calls.proofs.Accepted.{tasks-fit, regions-fit, target-below,
 
 -- a refused call leaves the table as it came in
 pub refused-step : (t : Table) (c : Call) (s who : ℕ) → s ≡ refusal t c → s ≢ 0 → who ≡ cond (eqb s 10 || eqb s 20) nobody (t .elected)
-    → record { table = t; answer = record { status = s; value = 0; key = 0; elected = who } } ≡ step t c
+    → record { table = t; answer = record { status = s; value = 0; key = 0; elected = who; displaced = nobody } } ≡ step t c
 unfolding step
 refused-step t c s who is n w = rw (← is, ne-eqb s 0 n, w)
 
-accepted-is : (t : Table) (c : Call) → refusal t c ≡ 0 → step t c ≡ accepted (effect t c)
+accepted-is : (t : Table) (c : Call) → refusal t c ≡ 0 → step t c ≡ accepted (t .elected) (effect t c)
 unfolding step
 accepted-is t c h = rw h
 
 -- with status 0 or 1 the elected task reported is the table's own
-as-answered : (u : Table) (b : Bool) → done u (cond b 1 0) 0 0 ≡ answered u (cond b 1 0) 0 0
-as-answered u true = refl
-as-answered u false = refl
+as-answered : (u : Table) (b : Bool) (displaced : ℕ) → done u (cond b 1 0) 0 0 displaced ≡ answered u (cond b 1 0) 0 0 displaced
+as-answered u true displaced = refl
+as-answered u false displaced = refl
+
+-- who stays elected is not displaced
+pub not-displaced : (former : ℕ) (states : List ℕ) → displacedBy former states former ≡ nobody
+unfolding displacedBy
+not-displaced former states = rw (eq-eqb former former refl, and-false)
 
 -- an entry stored again where it stands
 set-own : (xs : List ℕ) (i : ℕ) → set xs i (getD xs i 0) ≡ xs
@@ -75,8 +81,14 @@ module _ (t : Table) (c : Call) (z : refusal t c ≡ 0) where
   parts : Parts t
   parts = parts-of t (facts .is-valid)
 
-  elected-same : electionOf t ≡ t .elected
-  elected-same = sym (parts .elected)
+  -- where nothing changes that the election reads, the elected task stays and nobody is displaced
+  abbrev stays : Elected
+  stays = record { task = t .elected; displaced = nobody }
+
+  stays-is : stays ≡ electOf (t .elected) t
+  stays-is =
+      ap₂ (λ who other. record { task = who; displaced = other }) (parts .elected)
+      (sym (not-displaced (t .elected) (t .state)) ∙ ap (displacedBy (t .elected) (t .state)) (parts .elected))
 
   -- ---- START, STOP, END, SIGNAL, WAIT, CLEAR
 
@@ -90,55 +102,56 @@ module _ (t : Table) (c : Call) (z : refusal t c ≡ 0) where
     abbrev suspended : Bool
     suspended = eqb (c .operation) WAIT && not (met (c .b % 256) (c .a % 65536) (taskOf t (target c) .arrived))
 
-    pub task-changed : (left : List Timer) (v who : ℕ) → left ≡ timersLeft (c .operation) (i % taskRoom) (t .timers)
-        → v ≡ held (t .holder) → who ≡ electedBy v (set (t .state) (i % taskRoom) (after .state)) (t .priority)
-        → answered (withElected who (withTimers (t .ticks) left (withTask (i % taskRoom) after t))) status 0 0 ≡ step t c
-    task-changed left v who k r s =
-        let elects : who ≡ electionOf (withTask (i % taskRoom) after t) = s ∙ rw r (election-by _ _ _) in
-        rw (elects, k, w, q, p) (rw row (sym (accepted-is t c z ∙ ap accepted (task-effect t c facts low) ∙ as-answered _ suspended)))
+    pub task-changed : (left : List Timer) (v : ℕ) (next : Elected) → left ≡ timersLeft (c .operation) (i % taskRoom) (t .timers)
+        → v ≡ held (t .holder) → next ≡ electBy (t .elected) v (set (t .state) (i % taskRoom) (after .state)) (t .priority)
+        → answered (withElected (next .task) (withTimers (t .ticks) left (withTask (i % taskRoom) after t))) status 0 0 (next .displaced) ≡ step t c
+    task-changed left v next k r s =
+        let elects : next ≡ electOf (t .elected) (withTask (i % taskRoom) after t) = s ∙ rw r (elect-by _ _ _ _) in
+        rw (elects, k, w, q, p) (rw row (sym (accepted-is t c z ∙ ap (accepted (t .elected)) (task-effect t c facts low) ∙ as-answered _ suspended _)))
 
     -- where the task keeps its state, nobody else is elected and no timer is disarmed
-    pub task-kept : after .state ≡ taskOf t (i % taskRoom) .state → answered (withTask (i % taskRoom) after t) status 0 0 ≡ step t c
+    pub task-kept : after .state ≡ taskOf t (i % taskRoom) .state → answered (withTask (i % taskRoom) after t) status 0 0 nobody ≡ step t c
     task-kept same =
         let states : set (t .state) (i % taskRoom) (after .state) ≡ t .state = ap (set (t .state) (i % taskRoom)) same ∙ set-own (t .state) (i % taskRoom) in
-        task-changed (t .timers) (held (t .holder)) (t .elected) (rw (still-runs t c facts (i % taskRoom) row after p same) refl) refl
-        (parts .elected ∙ sym (rw states (election-by _ _ _)))
+        task-changed (t .timers) (held (t .holder)) stays (rw (still-runs t c facts (i % taskRoom) row after p same) refl) refl
+        (stays-is ∙ sym (rw states (elect-by _ _ _ _)))
 
   -- ---- ENTER and EXIT
 
   pub region-step : ENTER ≤ c .operation → c .operation < SEND → {mine : ℕ} → mine ≡ (c .caller + 1) % 256
-      → {after : Region} {v who : ℕ} → after ≡ regionAfter c mine (regionOf t (c .a % regionRoom))
-      → v ≡ held (set (t .holder) (c .a % regionRoom) (after .holder)) → who ≡ electedBy v (t .state) (t .priority)
-      → answered (withElected who (withRegion (c .a % regionRoom) after t)) 0 0 0 ≡ step t c
-  region-step l h m {after} {who = who} p q r =
+      → {after : Region} {v : ℕ} {next : Elected} → after ≡ regionAfter c mine (regionOf t (c .a % regionRoom))
+      → v ≡ held (set (t .holder) (c .a % regionRoom) (after .holder)) → next ≡ electBy (t .elected) v (t .state) (t .priority)
+      → answered (withElected (next .task) (withRegion (c .a % regionRoom) after t)) 0 0 0 (next .displaced) ≡ step t c
+  region-step l h m {after} {next = next} p q r =
       let row : c .a % regionRoom ≡ c .a = mod-eq-of-lt (omega (arith, region-there t c facts l h, regions-fit t c facts)) in
       let below = caller-below t c facts (omega arith) (omega arith) in
       let mine-is : (c .caller + 1) % 256 ≡ suc (c .caller) = mod-eq-of-lt (omega (arith, below, tasks-fit t c facts)) ∙ add-one (c .caller) in
-      let elects : who ≡ electionOf (withRegion (c .a % regionRoom) after t) = r ∙ rw q (election-by _ _ _) in
-      rw (elects, p, m, mine-is, row) (sym (accepted-is t c z ∙ ap accepted (region-effect t c facts l h)))
+      let elects : next ≡ electOf (t .elected) (withRegion (c .a % regionRoom) after t) = r ∙ rw q (elect-by _ _ _ _) in
+      rw (elects, p, m, mine-is, row) (sym (accepted-is t c z ∙ ap (accepted (t .elected)) (region-effect t c facts l h)))
 
   -- ---- ARM, DISARM and TICK
 
   pub timer-step : ARM ≤ c .operation → c .operation < TICK → {after : Timer} → after ≡ timerAfter c (t .ticks) (timerOf t (c .a % timerRoom))
-      → answered (withTimers (t .ticks) (set (t .timers) (c .a % timerRoom) after) t) 0 0 0 ≡ step t c
+      → answered (withTimers (t .ticks) (set (t .timers) (c .a % timerRoom) after) t) 0 0 0 nobody ≡ step t c
   timer-step l h {after} p =
       let row : c .a % timerRoom ≡ c .a = mod-eq-of-lt (timer-there t c facts l h) in
       let timers = set (t .timers) (c .a) (timerAfter c (t .ticks) (timerOf t (c .a))) in
-      let elects = ap (λ who. answered (withElected who (withTimers (t .ticks) timers t)) 0 0 0) elected-same in
-      rw (p, row) (sym (accepted-is t c z ∙ ap accepted (timer-effect t c facts l h) ∙ elects))
+      let elects = ap (λ next. answered (withElected (next .task) (withTimers (t .ticks) timers t)) 0 0 0 (next .displaced)) (sym stays-is) in
+      rw (p, row) (sym (accepted-is t c z ∙ ap (accepted (t .elected)) (timer-effect t c facts l h) ∙ elects))
 
   pub is-tick : TICK ≤ c .operation → c .operation ≡ TICK
   is-tick l = let most = ltb-false TICK (c .operation) (facts .known) in omega arith
 
-  pub tick-step : c .operation ≡ TICK → {now v who : ℕ} {rows : Rows} {left : List Timer}
+  pub tick-step : c .operation ≡ TICK → {now v : ℕ} {next : Elected} {rows : Rows} {left : List Timer}
       → now ≡ later (t .ticks) 1 → rows ≡ rungRows now (t .timers) (rowsOf t) → left ≡ map (rung now) (t .timers)
-      → v ≡ held (t .holder) → who ≡ electedBy v (rows .state) (t .priority)
-      → answered (withElected who (withTimers now left (withRows rows t))) 0 0 0 ≡ step t c
+      → v ≡ held (t .holder) → next ≡ electBy (t .elected) v (rows .state) (t .priority)
+      → answered (withElected (next .task) (withTimers now left (withRows rows t))) 0 0 0 (next .displaced) ≡ step t c
   unfolding effect
-  tick-step e {who = who} {rows} n p q r s =
-      let elects : who ≡ electionOf (withRows rows t) = s ∙ rw r (election-by _ _ _) in
+  tick-step e {next = next} {rows} n p q r s =
+      let elects : next ≡ electOf (t .elected) (withRows rows t) = s ∙ rw r (elect-by _ _ _ _) in
       let done-is : effect t c ≡ plain (ticked t) = rw e refl in
-      rw elects (ap (λ u. accepted (plain u)) (ticked-is t _ _ _ (facts .is-valid) n q p) ∙ sym (accepted-is t c z ∙ ap accepted done-is))
+      rw elects
+      (ap (λ u. accepted (t .elected) (plain u)) (ticked-is t _ _ _ (facts .is-valid) n q p) ∙ sym (accepted-is t c z ∙ ap (accepted (t .elected)) done-is))
 
   -- ---- SEND and RETRIEVE: nobody is elected again, since neither tasks nor holders change
 
@@ -147,8 +160,8 @@ module _ (t : Table) (c : Call) (z : refusal t c ≡ 0) where
   endOf q = firstPlace q + lengthOf t q
 
   -- what the code answers where only the queues' arrays change
-  abbrev stored : List ℕ → List ℕ → List ℕ → ℕ → ℕ → ℕ → Done
-  stored lengths es cs value key who = answered (withElected who (withStore lengths es cs t)) 0 value key
+  abbrev stored : List ℕ → List ℕ → List ℕ → ℕ → ℕ → Elected → Done
+  stored lengths es cs value key next = answered (withElected (next .task) (withStore lengths es cs t)) 0 value key (next .displaced)
 
   module _ (e : c .operation ≡ SEND) where
     here : c .a < t .queues
@@ -180,13 +193,13 @@ module _ (t : Table) (c : Call) (z : refusal t c ≡ 0) where
         → answered
         (withStore (set (t .length) (c .a % queueRoom) n) (set (t .element) (endOf (c .a % queueRoom) % storeSize) (c .b))
         (set (t .criterion) (endOf (c .a % queueRoom) % storeSize) (c .c % 256)) t)
-        0 0 0
+        0 0 0 nobody
         ≡ step t c
     send-step longer =
         let row : c .a % queueRoom ≡ c .a = mod-eq-of-lt within-room in
         let place : endOf (c .a) % storeSize ≡ endOf (c .a) = mod-eq-of-lt (omega (arith, within-room, free)) in
         let one-more : (lengthOf t (c .a) + 1) % 256 ≡ lengthOf t (c .a) + 1 = mod-eq-of-lt (omega (arith, free)) in
-        rw (longer, row) (rw (place, one-more, criterion-fits) (sym (accepted-is t c z ∙ ap accepted sent ∙ ap (stored _ _ _ 0 0) elected-same)))
+        rw (longer, row) (rw (place, one-more, criterion-fits) (sym (accepted-is t c z ∙ ap (accepted (t .elected)) sent ∙ ap (stored _ _ _ 0 0) (sym stays-is))))
 
   module _ (e : c .operation ≡ RETRIEVE) where
     within-store : c .a < queueRoom
@@ -225,7 +238,7 @@ module _ (t : Table) (c : Call) (z : refusal t c ≡ 0) where
         → n ≡ (lengthOf t (c .a % queueRoom) + 255) % 256
         → es ≡ closedIn (p % storeSize) (endOf (c .a % queueRoom)) (t .element)
         → cs ≡ closedIn (p % storeSize) (endOf (c .a % queueRoom)) (t .criterion)
-        → answered (withStore (set (t .length) (c .a % queueRoom) n) es cs t) 0 (getD (t .element) (p % storeSize) 0) (getD (t .criterion) (p % storeSize) 0)
+        → answered (withStore (set (t .length) (c .a % queueRoom) n) es cs t) 0 (getD (t .element) (p % storeSize) 0) (getD (t .criterion) (p % storeSize) 0) nobody
         ≡ step t c
     unfolding effect-of
     retrieve-step at shorter elements criteria =
@@ -233,4 +246,4 @@ module _ (t : Table) (c : Call) (z : refusal t c ≡ 0) where
         let place : placeFound % storeSize ≡ placeFound = mod-eq-of-lt (omega (arith, found, within-store, from-queue .short)) in
         let one-less : (lengthOf t (c .a) + 255) % 256 ≡ lengthOf t (c .a) - 1 = omega (arith, some, from-queue .short) in
         rw (elements, criteria, shorter, at, row)
-        (rw (place, one-less) (sym (accepted-is t c z ∙ ap accepted taken ∙ ap (stored _ _ _ _ _) elected-same)))
+        (rw (place, one-less) (sym (accepted-is t c z ∙ ap (accepted (t .elected)) taken ∙ ap (stored _ _ _ _ _) (sym stays-is))))

@@ -10,6 +10,7 @@ use refusals::reported_by;
 use rules::Answer;
 use rules::Call;
 use rules::ENTER;
+use rules::NOBODY;
 use rules::RETRIEVE;
 use rules::SEND;
 use rules::STORE;
@@ -47,6 +48,7 @@ pub fn call_assuming(
                 value: 0,
                 key: 0,
                 elected: reported_by(status, f.elected),
+                displaced: NOBODY,
             },
         };
     }

@@ -5,6 +5,7 @@ use queues::close_elements;
 use queues::place_of;
 use rules::Answer;
 use rules::Call;
+use rules::NOBODY;
 use rules::PLACES;
 use rules::QUEUES;
 use rules::STORE;
@@ -40,6 +41,7 @@ pub(crate) fn send_call(
             value: 0,
             key: 0,
             elected: t.elected,
+            displaced: NOBODY,
         },
     }
 }
@@ -72,6 +74,7 @@ pub(crate) fn retrieve_call(
             value: value,
             key: key,
             elected: t.elected,
+            displaced: NOBODY,
         },
     }
 }

@@ -1,5 +1,5 @@
 // ENTER and EXIT, once accepted: one region changes, and the elected task is found afresh. The remainder is for a call that was told a lie.
-use election::elected_by;
+use election::elect;
 use regions::held_by;
 use regions::region_after;
 use rules::Answer;
@@ -32,8 +32,8 @@ pub(crate) fn region_call(mut t: Front, k: Call) -> FrontDone
     t.holder[at] = region.holder;
     t.entries[at] = region.entries;
     let v = held_by(&t.holder);
-    let next = elected_by(v, &t.state, &t.priority);
-    t.elected = next;
+    let next = elect(t.elected, v, &t.state, &t.priority);
+    t.elected = next.task;
     FrontDone {
         front: t,
         answer: Answer {
@@ -41,6 +41,7 @@ pub(crate) fn region_call(mut t: Front, k: Call) -> FrontDone
             value: 0,
             key: 0,
             elected: t.elected,
+            displaced: next.displaced,
         },
     }
 }

@@ -1,9 +1,10 @@
 // START, STOP, END, SIGNAL, WAIT and CLEAR, once accepted: one task changes. The remainders are for a call that was told a lie.
-use election::elected_by;
+use election::elect;
 use refusals::pick;
 use regions::held_by;
 use rules::Answer;
 use rules::Call;
+use rules::NOBODY;
 use rules::TASKS;
 use rules::Task;
 use rules::WAIT;
@@ -45,12 +46,13 @@ pub(crate) fn task_call(mut t: Front, k: Call) -> FrontDone
                 value: 0,
                 key: 0,
                 elected: t.elected,
+                displaced: NOBODY,
             },
         };
     }
     let v = held_by(&t.holder);
-    let next = elected_by(v, &t.state, &t.priority);
-    t.elected = next;
+    let next = elect(t.elected, v, &t.state, &t.priority);
+    t.elected = next.task;
     let timers = t.timers;
     t.timers = timers_left(k.operation, i as u8, timers);
     FrontDone {
@@ -60,6 +62,7 @@ pub(crate) fn task_call(mut t: Front, k: Call) -> FrontDone
             value: 0,
             key: 0,
             elected: t.elected,
+            displaced: next.displaced,
         },
     }
 }

@@ -1,9 +1,10 @@
 // ARM and DISARM, which change one timer, and TICK, once accepted: all due timers signal, and then one election. The remainder is for a
 // call that was told a lie.
-use election::elected_by;
+use election::elect;
 use regions::held_by;
 use rules::Answer;
 use rules::Call;
+use rules::NOBODY;
 use rules::TIMERS;
 use tables::Front;
 use tables::FrontDone;
@@ -31,6 +32,7 @@ pub(crate) fn timer_call(mut t: Front, k: Call) -> FrontDone
             value: 0,
             key: 0,
             elected: t.elected,
+            displaced: NOBODY,
         },
     }
 }
@@ -65,8 +67,8 @@ pub(crate) fn tick_call(mut t: Front) -> FrontDone
     t.timers = rung_all(now, timers);
     t.ticks = now;
     let v = held_by(&t.holder);
-    let next = elected_by(v, &t.state, &t.priority);
-    t.elected = next;
+    let next = elect(t.elected, v, &t.state, &t.priority);
+    t.elected = next.task;
     FrontDone {
         front: t,
         answer: Answer {
@@ -74,6 +76,7 @@ pub(crate) fn tick_call(mut t: Front) -> FrontDone
             value: 0,
             key: 0,
             elected: t.elected,
+            displaced: next.displaced,
         },
     }
 }

@@ -1,4 +1,5 @@
-// Election: the ready task of smallest priority number, and of equals the lowest task number.
+// Election: the ready task of smallest priority number, and of equals the lowest task number; and the one that it displaces.
+use rules::Elected;
 use rules::NOBODY;
 use rules::READY;
 use rules::TASKS;
@@ -10,7 +11,7 @@ ghost use lib.Dec.{eqb};
 ghost use lib.ListN.{length};
 ghost use Rattle.rules.specs.Numbers.{taskRoom, priorityEnd};
 ghost use Rattle.rules.specs.Tasks.{ready};
-ghost use Rattle.rules.specs.Election.{smallest, lowest, readyAt, priorityAt, bestReady, electedBy};
+ghost use Rattle.rules.specs.Election.{smallest, lowest, readyAt, priorityAt, bestReady, displacedBy, electedBy, electBy};
 ghost use Rattle.election.specs.Ranks.{notReady, rankOf};
 ghost use Rattle.election.specs.Words.{wordBits, word};
 
@@ -128,4 +129,35 @@ pub fn elected_by<'a>(v: u8, state: &'a [u8; TASKS], priority: &'a [u8; TASKS]) 
         return best_ready(state, priority);
     }
     v - 1
+}
+
+// Whether a task is ready: a number past the tasks is nobody's.
+fn is_ready(state: &[u8; TASKS], task: u8) -> bool
+    requires { ⌜ length (now state) ≡ taskRoom ⌝ }
+    ensures { λ r. ⌜ r ≡ readyAt (now (state .entry)) task ⌝ }
+{
+    let i = task as usize;
+    if i < TASKS { state[i] == READY } else { false }
+}
+
+// The former elected task, if it is still ready and no longer elected.
+fn displaced_by(former: u8, state: &[u8; TASKS], elected: u8) -> u8
+    requires { ⌜ length (now state) ≡ taskRoom ⌝ }
+    ensures { λ r. ⌜ r ≡ displacedBy former (now (state .entry)) elected ⌝ }
+{
+    let aside = is_ready(state, former) & (former != elected);
+    if aside { former } else { NOBODY }
+}
+
+// Both answers of an election, where `former` was elected before it: every call that elects takes both from here.
+pub fn elect<'a>(former: u8, v: u8, state: &'a [u8; TASKS], priority: &'a [u8; TASKS]) -> Elected
+    requires { ⌜ length (now state) ≡ taskRoom ⌝ }
+    requires { ⌜ length (now priority) ≡ taskRoom ⌝ }
+    ensures { λ r. ⌜ r ≡ electBy former v (now (state .entry)) (now (priority .entry)) ⌝ }
+{
+    let task = elected_by(v, state, priority);
+    Elected {
+        task: task,
+        displaced: displaced_by(former, state, task),
+    }
 }

@@ -12,4 +12,5 @@ replyBy status value elected =
       value = cond (eqb status 0) value 0;
       key = 0;
       elected = cond (eqb status 10 || eqb status 20) nobody elected;
+      displaced = nobody;
     }

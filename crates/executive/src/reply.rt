@@ -2,6 +2,7 @@
 use refusals::pick;
 use refusals::reported_by;
 use rules::Answer;
+use rules::NOBODY;
 use rules::OUTSIDE;
 ghost use mathlib.Core.Path.{_≡_};
 ghost use mathlib.Core.Bool.{not, _||_};
@@ -31,6 +32,7 @@ pub(crate) fn reply_of(status: u8, value: u32, elected: u8) -> Answer
             value: value,
             key: 0,
             elected: who,
+            displaced: NOBODY,
         };
     }
     Answer {
@@ -38,6 +40,7 @@ pub(crate) fn reply_of(status: u8, value: u32, elected: u8) -> Answer
         value: 0,
         key: 0,
         elected: who,
+        displaced: NOBODY,
     }
 }
 

@@ -42,7 +42,7 @@ pub answer-length : (r : Answer) → length (answerLine r) ≡ answerLength
 unfolding answerLine
 answer-length r = simp (length-append, digits-length)
 
-module _ (r : Answer) (old status value key elected : List ℕ) where
+module _ (r : Answer) (old status value key elected displaced : List ℕ) where
   abbrev first : List ℕ
   first = putMid 0 2 old status
 
@@ -52,17 +52,22 @@ module _ (r : Answer) (old status value key elected : List ℕ) where
   abbrev third : List ℕ
   third = putMid 10 2 second key
 
+  abbrev fourth : List ℕ
+  fourth = putMid 12 2 third elected
+
   pub answer-written : length old ≡ answerLength → status ≡ digits (length (midOf 0 2 old)) (r .status)
       → value ≡ digits (length (midOf 2 8 first)) (r .value) → key ≡ digits (length (midOf 10 2 second)) (r .key)
-      → elected ≡ digits (length (midOf 12 2 third)) (r .elected) → set (putMid 12 2 third elected) 14 lineFeed ≡ answerLine r
+      → elected ≡ digits (length (midOf 12 2 third)) (r .elected) → displaced ≡ digits (length (midOf 14 2 fourth)) (r .displaced)
+      → set (putMid 14 2 fourth displaced) 16 lineFeed ≡ answerLine r
   unfolding answerLine
-  answer-written h s v k e =
+  answer-written h s v k e d =
       let start : Written 0 [] old old = record { long = refl; whole = refl } in
       let one = written-more 2 (r .status) 0 status start (omega arith) s in
       let two = written-more 8 (r .value) 2 value one (omega arith) v in
       let three = written-more 2 (r .key) 10 key two (omega arith) k in
       let four = written-more 2 (r .elected) 12 elected three (omega arith) e in
-      written-last lineFeed 14 four h
+      let five = written-more 2 (r .displaced) 14 displaced four (omega arith) d in
+      written-last lineFeed 16 five h
 
 -- ---- bytes written over those that stand from a place on
 

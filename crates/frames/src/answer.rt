@@ -5,8 +5,8 @@ ghost use mathlib.Core.Path.{_≡_};
 ghost use lib.ListN.{length};
 ghost use Rattle.frames.specs.Answers.{answerLength, answerLine, placed};
 
-// The bytes of an answer line: status 2 digits, value 8, key 2, elected 2, and its line feed.
-pub const ANSWER: usize = 15;
+// The bytes of an answer line: status 2 digits, value 8, key 2, elected 2, displaced 2, and its line feed.
+pub const ANSWER: usize = 17;
 
 // Fills the places of a line.
 fn fill(line: &mut [u8], r: Answer)
@@ -17,7 +17,8 @@ fn fill(line: &mut [u8], r: Answer)
     put_digits(&mut line[2..10], r.value);
     put_digits(&mut line[10..12], r.key as u32);
     put_digits(&mut line[12..14], r.elected as u32);
-    line[14] = b'\n';
+    put_digits(&mut line[14..16], r.displaced as u32);
+    line[16] = b'\n';
 }
 
 // Writes the answer line over the bytes from `at` on; nothing where there are too few.

@@ -14,7 +14,7 @@ use Rattle.rules.specs.Events.{met, arrive}
 use Rattle.rules.specs.Tasks.{woken, signalled, waited}
 use Rattle.rules.specs.Regions.{held}
 use Rattle.rules.specs.Queues.{pairs, front, behind as behindFront, laid, largest, before as beforeFirst, place, without}
-use Rattle.rules.specs.Election.{smallest, lowest, isBest, bestReady, election}
+use Rattle.rules.specs.Election.{smallest, lowest, isBest, bestReady, election, displacedBy}
 use Rattle.rules.specs.Tables.{queueOf}
 use Rattle.rules.specs.Validity.{shaped, countsInRange, prioritiesInRange, boundsInRange, listsInRange, operatorsInRange, holdersInRange, criteriaInRange, zeroPast, zeroPastCounts, zeroPastLengths, restRight, statesRight, entriesRight, oneHolder, holderReady, holderElected, lengthsRight, electedRight, timerRight, timersRight, valid}
 use Rattle.rules.specs.Answers.{refused}
@@ -27,7 +27,7 @@ use Rattle.exclusion.specs.Marks.{marks, mark, passesSignal}
 use Rattle.theorems.specs.Happenings.{Outer, Happening, outside, own, run, calls, outers, Reply, reply, callReplies, outerStatuses}
 use Rattle.theorems.proofs.Damaged.{stays-agree}
 use Rattle.theorems.proofs.Order.{demand3}
-use Rattle.lasting_theorems.specs.Examples.{begun, by, Premise, SameEnd, counting, ticksFirst, ticksLater, SameEndTicking, waits, wakesFirst, wakesLater, SameEndWaking, electsFirst, electsLater, SameEndElecting, OnlyRefusingPasses, FixedPasses, UntouchedPasses, NotInTurn, NotFree, NotPastArm, NotPastDisarm, NotOnlyRefusing, NotFixed, NotUntouched}
+use Rattle.lasting_theorems.specs.Examples.{begun, by, Premise, SameEnd, counting, ticksFirst, ticksLater, SameEndTicking, waits, wakesFirst, wakesLater, SameEndWaking, signalInside, signalBehind, OthersDisplaced, electsFirst, electsLater, SameEndElecting, OnlyRefusingPasses, FixedPasses, UntouchedPasses, NotInTurn, NotFree, NotPastArm, NotPastDisarm, NotOnlyRefusing, NotFixed, NotUntouched}
 
 -- to unfold one of these is to unfold all that the rules compute with: objects, the check, and a call
 unfoldable pub objects : Unit {0}
@@ -35,7 +35,7 @@ unfolding all every below padded met arrive woken signalled waited held pairs fr
 objects = tt
 
 unfoldable pub elections : Unit {0}
-unfolding smallest lowest isBest bestReady election
+unfolding smallest lowest isBest bestReady election displacedBy
 elections = tt
 
 unfoldable pub ranges : Unit {0}
@@ -108,6 +108,22 @@ waking =
 pub same-end-waking : SameEndWaking
 unfolding rules
 same-end-waking = (waking, agreed waking, refl, refl)
+
+aside : Premise waits signalInside signalBehind
+unfolding rules passesSignal mark marks
+aside =
+    record {
+      is-valid = refl;
+      free = (refl, (refl, tt));
+      same-calls = refl;
+      same-outers = List·Permᴰ·cons refl List·Permᴰ·nil;
+      first-in-turn = (refl, (refl, tt));
+      then-in-turn = (refl, (refl, tt));
+    }
+
+pub others-displaced : OthersDisplaced
+unfolding rules
+others-displaced = (aside, agreed aside, refl, refl)
 
 electing : Premise waits electsFirst electsLater
 unfolding rules passesSignal mark marks

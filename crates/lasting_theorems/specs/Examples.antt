@@ -8,7 +8,7 @@ use Rattle.rules.specs.declared.Table.{Table}
 use Rattle.rules.specs.declared.Call.{Call}
 use Rattle.rules.specs.declared.Answer.{Answer}
 use Rattle.rules.specs.declared.Done.{Done}
-use Rattle.rules.specs.Numbers.{START, WAIT, ENTER, EXIT, SEND, ARM, DISARM}
+use Rattle.rules.specs.Numbers.{nobody, START, WAIT, ENTER, EXIT, SEND, ARM, DISARM}
 use Rattle.rules.specs.Tasks.{waiting}
 use Rattle.rules.specs.Tables.{taskOf, timerOf, withTimers}
 use Rattle.rules.specs.Validity.{valid}
@@ -90,6 +90,21 @@ SameEndWaking =
     × (run step waits wakesFirst ≡ run step waits wakesLater)
     × (taskOf waits 2 .state ≡ waiting)
     × (run step waits wakesFirst .elected ≡ 2)
+
+-- ---- "Demand 3 doesn't: who is displaced depends on the order": the same end, and the EXIT displaces task 0 or nobody
+
+abbrev pub signalInside : List Happening
+signalInside = own (by 0 ENTER 0 0 0) ∷ outside (event 0 2) ∷ own (by 0 EXIT 0 0 0) ∷ []
+
+abbrev pub signalBehind : List Happening
+signalBehind = own (by 0 ENTER 0 0 0) ∷ own (by 0 EXIT 0 0 0) ∷ outside (event 0 2) ∷ []
+
+abbrev pub OthersDisplaced : Type 0
+OthersDisplaced =
+    Premise waits signalInside signalBehind
+    × (run step waits signalInside ≡ run step waits signalBehind)
+    × (step (run step waits (own (by 0 ENTER 0 0 0) ∷ outside (event 0 2) ∷ [])) (by 0 EXIT 0 0 0) .answer .displaced ≡ 0)
+    × (step (run step waits (own (by 0 ENTER 0 0 0) ∷ [])) (by 0 EXIT 0 0 0) .answer .displaced ≡ nobody)
 
 -- ---- a signal that elects another task at once, and one that is refused: task 1 is stopped
 

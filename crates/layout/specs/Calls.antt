@@ -28,11 +28,11 @@ stored d = record { block = packed (d .table); answer = answerNumber (d .answer)
 
 -- "gets 10 and isn't touched"
 abbrev pub notATable : Answer
-notATable = record { status = 10; value = 0; key = 0; elected = nobody }
+notATable = record { status = 10; value = 0; key = 0; elected = nobody; displaced = nobody }
 
--- its number: the status, and the elected task 256 times
+-- its number: the status, and nobody for the elected task and for the one displaced
 abbrev pub notATableNumber : ℕ
-notATableNumber = 10 + 256 * nobody
+notATableNumber = 10 + 256 * nobody + 16777216 * nobody
 
 abbrev pub untouched : List ℕ → Stored
 untouched block = record { block = block; answer = answerNumber notATable }

@@ -1,6 +1,6 @@
 -- The election in words of every ready task: who wins, that nobody else does, and that it is 255 exactly if none is ready.
 use Prim.Native.Nat.{ℕ, zero, suc, _+_, _<_, _≤_, min}
-use mathlib.Core.Path.{_≡_, refl, sym, _∙_}
+use mathlib.Core.Path.{_≡_, refl, sym, ap, _∙_}
 use mathlib.Core.Logic.{_≢_, _↔_, _⊎_, inl, inr, ⊎-elim}
 use mathlib.Core.Bool.{Bool, true, false, cond, false≢true}
 use mathlib.Core.List.{List}
@@ -11,7 +11,7 @@ use borrow.Author.Tests.{eqb-true, eqb-false, eq-eqb, ne-eqb, ltb-true, ltb-fals
 use Rattle.rules.specs.Numbers.{taskRoom, priorityEnd, nobody}
 use Rattle.rules.specs.Words.{isZero}
 use Rattle.rules.specs.Regions.{held, occupied, holderOf}
-use Rattle.rules.specs.Election.{smallest, lowest, readyAt, priorityAt, isBest, bestReady, election, Ready, Wins, electedBy}
+use Rattle.rules.specs.Election.{smallest, lowest, readyAt, priorityAt, isBest, bestReady, election, displacedBy, elect, Ready, Wins, electedBy, electBy}
 use Rattle.rules.proofs.Counts.{at-end}
 use Rattle.rules.proofs.Bools.{and-left, and-right, both}
 
@@ -200,3 +200,8 @@ election-by states priorities holders = go (isZero (held holders)) refl
     go : (b : Bool) → isZero (held holders) ≡ b → electedBy (held holders) states priorities ≡ election states priorities holders
     go true e = rw e
     go false e = rw e
+
+pub elect-by : (former : ℕ) (states priorities holders : List ℕ)
+    → electBy former (held holders) states priorities ≡ elect former states priorities holders
+elect-by former states priorities holders =
+    ap (λ who. record { task = who; displaced = displacedBy former states who }) (election-by states priorities holders)

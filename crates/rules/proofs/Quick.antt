@@ -75,7 +75,7 @@ unfolding quickValid valid
 quick-valid t = rw (zero-behind (t .length) (t .element) (t .criterion))
 
 abbrev answered : Table → Call → ℕ → Done
-answered t c status = cond (isZero status) (accepted (effect t c)) (refused t status)
+answered t c status = cond (isZero status) (accepted (t .elected) (effect t c)) (refused t status)
 
 unfoldable pub quickStep : Table → Call → Done
 quickStep t c = answered t c (first (when 10 (not (quickValid t)) ∷ drop 1 (reasons t c)))

@@ -10,12 +10,12 @@ use Rattle.rules.specs.declared.Call.{Call}
 use Rattle.rules.specs.declared.Answer.{Answer}
 use Rattle.rules.specs.declared.Done.{Done}
 use Rattle.rules.specs.Numbers.{tickEnd, outside, nobody, START, STOP, END, SIGNAL, WAIT, CLEAR, ENTER, EXIT, SEND, RETRIEVE, ARM, DISARM, TICK}
-use Rattle.rules.specs.Words.{all, every, below, padded}
+use Rattle.rules.specs.Words.{isZero, all, every, below, padded}
 use Rattle.rules.specs.Events.{met, arrive, cleared}
 use Rattle.rules.specs.Tasks.{woken, signalled, waited}
 use Rattle.rules.specs.Regions.{held}
 use Rattle.rules.specs.Queues.{pairs, front, behind, laid, largest, before, place, without}
-use Rattle.rules.specs.Election.{smallest, lowest, isBest, bestReady, election}
+use Rattle.rules.specs.Election.{smallest, lowest, isBest, bestReady, election, displacedBy}
 use Rattle.rules.specs.Tables.{taskOf, withRegion, withTimers, queueOf}
 use Rattle.rules.specs.Validity.{shaped, countsInRange, prioritiesInRange, boundsInRange, listsInRange, operatorsInRange, holdersInRange, criteriaInRange, zeroPast, zeroPastCounts, zeroPastLengths, restRight, statesRight, entriesRight, oneHolder, holderReady, holderElected, lengthsRight, electedRight, timerRight, timersRight, valid}
 use Rattle.rules.specs.Fresh.{configurationInRange, freshTable, fresh}
@@ -25,10 +25,14 @@ use Rattle.rules.specs.Effects.{ringing, ticked, effect}
 use Rattle.rules.specs.Step.{step}
 use Rattle.rules.proofs.Quick.{zeroBehind, quickValid, quickStep, computed}
 
--- a call, and the answer that document 01 gives for it
+-- a call, and what document 01 says of its answer; of the one displaced the rows before T-08 say nothing
 pub record Said : Type 0 where
   pub call : Call
-  pub answer : Answer
+  pub status : ℕ
+  pub value : ℕ
+  pub key : ℕ
+  pub elected : ℕ
+  pub displaced : List ℕ
 
 -- what document 01 says of a task's events at the end of a run
 pub record Events : Type 0 where
@@ -45,12 +49,28 @@ abbrev gives : ℕ → ℕ → ℕ → ℕ → ℕ → ℕ → ℕ → ℕ → �
 gives who operation a b c status value key elected =
     record {
       call = record { caller = who; operation = operation; a = a; b = b; c = c };
-      answer = record { status = status; value = value; key = key; elected = elected };
+      status = status;
+      value = value;
+      key = key;
+      elected = elected;
+      displaced = [];
     }
 
 -- the same where value and key are 0
 abbrev says : ℕ → ℕ → ℕ → ℕ → ℕ → ℕ → ℕ → Said
 says who operation a b c status elected = gives who operation a b c status 0 0 elected
+
+-- the same, with the one displaced
+abbrev aside : ℕ → ℕ → ℕ → ℕ → ℕ → ℕ → ℕ → ℕ → Said
+aside who operation a b c status elected displaced =
+    record {
+      call = record { caller = who; operation = operation; a = a; b = b; c = c };
+      status = status;
+      value = 0;
+      key = 0;
+      elected = elected;
+      displaced = displaced ∷ [];
+    }
 
 -- a run, and a run at whose end a task's events are named
 abbrev run : List Said → Run
@@ -59,9 +79,10 @@ run calls = record { says = calls; shows = [] }
 abbrev endsWith : ℕ → ℕ → List Said → Run
 endsWith task arrived calls = record { says = calls; shows = record { task = task; arrived = arrived } ∷ [] }
 
-sameAnswer : Answer → Answer → Bool
+sameAnswer : Answer → Said → Bool
 sameAnswer x y =
     eqb (x .status) (y .status) && eqb (x .value) (y .value) && eqb (x .key) (y .key) && eqb (x .elected) (y .elected)
+    && every (eqb (x .displaced)) (y .displaced)
 
 sameEvents : Table → Events → Bool
 sameEvents t e = eqb (taskOf t (e .task) .arrived) (e .arrived)
@@ -74,7 +95,7 @@ rightFrom : Does → Table → List Said → List Events → Bool
 rightFrom does t [] shows = every (sameEvents t) shows
 rightFrom does t (s ∷ ss) shows =
     let d = does t (s .call) in
-    sameAnswer (d .answer) (s .answer) && rightFrom does (d .table) ss shows
+    sameAnswer (d .answer) s && rightFrom does (d .table) ss shows
 
 -- "Each starts fresh: priorities 5, 5, 2, two regions, one queue of bound 2."
 pub begun : Done
@@ -85,7 +106,7 @@ right does t r = rightFrom does t (r .says) (r .shows)
 
 -- each run of each row gives what is said of it, and the fresh table is accepted
 pub rowsRight : List (List Run) → Does → Bool
-rowsRight rows does = let b = begun in sameAnswer (b .answer) (record { status = 0; value = 0; key = 0; elected = 0 }) && every (every (right does (b .table))) rows
+rowsRight rows does = let b = begun in sameAnswer (b .answer) (aside 0 0 0 0 0 0 0 nobody) && every (every (right does (b .table))) rows
 
 -- "P1: task 0 STARTs 2: elected 2. STARTing 1 instead: elected 0."
 abbrev P1 : List Run
@@ -167,7 +188,7 @@ rows = P1 ∷ P2 ∷ P3 ∷ P4 ∷ P5 ∷ PO1 ∷ PO2 ∷ PO3 ∷ PO4 ∷ PO5 �
 
 -- to unfold these is to unfold all that the rules compute with
 computingWords : Unit {0}
-unfolding all every below padded met arrive cleared woken signalled waited held later ahead smallest lowest isBest bestReady election
+unfolding all every below padded met arrive cleared woken signalled waited held later ahead smallest lowest isBest bestReady election displacedBy
 computingWords = tt
 
 computingQueues : Unit {0}
@@ -341,3 +362,43 @@ unentered =
 pub exitRows : rowsRight (unentered ∷ []) step ≡ true
 unfolding computing
 exitRows = computed (rowsRight (unentered ∷ [])) refl
+
+-- ---- T-08: "the former elected task if it is still ready and no longer elected, else 255"
+
+-- task 0, pushed aside by START and by a signal; nobody where the former one waits or has ended, where it stays elected, and where nobody was
+-- elected
+abbrev pushed : List Run
+pushed =
+    run
+    (aside 0 START 2 0 0 0 2 0
+    ∷ aside 2 WAIT 1 0 0 1 0 nobody
+    ∷ aside outside SIGNAL 0 2 0 0 2 0
+    ∷ aside 2 END 0 0 0 0 0 nobody
+    ∷ aside 0 START 1 0 0 0 0 nobody
+    ∷ aside 0 END 0 0 0 0 1 nobody
+    ∷ aside 1 WAIT 1 0 0 1 nobody nobody
+    ∷ aside outside SIGNAL 0 1 0 0 1 nobody
+    ∷ aside 1 STOP 1 0 0 0 nobody nobody
+    ∷ [])
+    ∷ []
+
+-- inside a region nobody is pushed aside, and its holder is at the last EXIT; a tick pushes aside as a signal does; "a refusal gives 255"
+abbrev held-off : List Run
+held-off =
+    run
+    (aside 0 ENTER 0 0 0 0 0 nobody
+    ∷ aside 0 START 2 0 0 0 0 nobody
+    ∷ aside 2 CLEAR 1 0 0 12 0 nobody
+    ∷ aside 0 EXIT 0 0 0 0 2 0
+    ∷ aside 2 ARM 0 0 1 0 2 nobody
+    ∷ aside 2 WAIT 1 0 0 1 0 nobody
+    ∷ aside 0 SEND 0 11 3 0 0 nobody
+    ∷ aside outside TICK 0 0 0 0 2 0
+    ∷ aside 0 EXIT 0 0 0 12 2 nobody
+    ∷ aside 2 EXIT 0 0 0 23 2 nobody
+    ∷ [])
+    ∷ []
+
+pub displacedRows : rowsRight (pushed ∷ held-off ∷ []) step ≡ true
+unfolding computing
+displacedRows = computed (rowsRight (pushed ∷ held-off ∷ [])) refl

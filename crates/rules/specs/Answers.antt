@@ -1,4 +1,4 @@
--- Answers: "a status, a value, a key and the elected task".
+-- Answers: "a status, a value, a key and the elected task"; since T-08 the one displaced "as a last field".
 use Prim.Native.Nat.{ℕ}
 use mathlib.Core.Bool.{cond, _||_}
 use lib.Dec.{eqb}
@@ -12,16 +12,17 @@ use Rattle.rules.specs.Words.{isZero}
 abbrev pub reported : Table → ℕ → ℕ
 reported t status = cond (eqb status 10 || eqb status 20) nobody (t .elected)
 
-abbrev pub answer : Table → ℕ → ℕ → ℕ → Answer
-answer t status value key = record { status = status; value = value; key = key; elected = reported t status }
+abbrev pub answer : Table → ℕ → ℕ → ℕ → ℕ → Answer
+answer t status value key displaced =
+    record { status = status; value = value; key = key; elected = reported t status; displaced = displaced }
 
-abbrev pub done : Table → ℕ → ℕ → ℕ → Done
-done t status value key = record { table = t; answer = answer t status value key }
+abbrev pub done : Table → ℕ → ℕ → ℕ → ℕ → Done
+done t status value key displaced = record { table = t; answer = answer t status value key displaced }
 
--- "Every refusal leaves the table as it came in"; value and key are 0
+-- "Every refusal leaves the table as it came in"; value and key are 0; "a refusal gives 255"
 abbrev pub refused : Table → ℕ → Done
-refused t status = done t status 0 0
+refused t status = done t status 0 0 nobody
 
 -- a query: "value is a query's reply", 0 where it is refused
 abbrev pub replied : Table → ℕ → ℕ → Answer
-replied t status value = answer t status (cond (isZero status) value 0) 0
+replied t status value = answer t status (cond (isZero status) value 0) 0 nobody

@@ -2,10 +2,11 @@
 use Prim.Native.Nat.{ℕ, zero, suc, _-_, _<_, _≤_, min}
 use mathlib.Core.Path.{_≡_}
 use mathlib.Core.Logic.{_⊎_}
-use mathlib.Core.Bool.{Bool, true, cond, _&&_}
+use mathlib.Core.Bool.{Bool, true, cond, not, _&&_}
 use mathlib.Core.List.{List}
 use lib.Dec.{eqb}
 use lib.ListN.{getD}
+use Rattle.rules.specs.declared.Elected.{Elected}
 use Rattle.rules.specs.Numbers.{taskRoom, priorityEnd, nobody}
 use Rattle.rules.specs.Words.{isZero}
 use Rattle.rules.specs.Tasks.{ready}
@@ -41,6 +42,20 @@ bestReady states priorities = lowest taskRoom (isBest states priorities)
 unfoldable pub election : List ℕ → List ℕ → List ℕ → ℕ
 election states priorities holders = cond (occupied holders) (holderOf holders) (bestReady states priorities)
 
+-- ---- "Election must also answer the one displaced"
+
+-- "the former elected task if it is still ready and no longer elected, else 255"
+unfoldable pub displacedBy : ℕ → List ℕ → ℕ → ℕ
+displacedBy former states elected = cond (readyAt states former && not (eqb former elected)) former nobody
+
+-- both answers of an election, where `former` was elected before it
+abbrev pub elect : ℕ → List ℕ → List ℕ → List ℕ → Elected
+elect former states priorities holders =
+    record {
+      task = election states priorities holders;
+      displaced = displacedBy former states (election states priorities holders);
+    }
+
 -- ---- the same in words of every ready task, and by the first occupied region's entry
 
 abbrev pub Ready : List ℕ → ℕ → Type 0
@@ -55,3 +70,7 @@ pub record Wins (states priorities : List ℕ) (w : ℕ) : Type 0 where
 -- by the entry of the first occupied region, as the code has it
 unfoldable pub electedBy : ℕ → List ℕ → List ℕ → ℕ
 electedBy v states priorities = cond (isZero v) (bestReady states priorities) (v - 1)
+
+abbrev pub electBy : ℕ → ℕ → List ℕ → List ℕ → Elected
+electBy former v states priorities =
+    record { task = electedBy v states priorities; displaced = displacedBy former states (electedBy v states priorities) }

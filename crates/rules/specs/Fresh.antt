@@ -6,7 +6,7 @@ use lib.Dec.{ltb, leb}
 use lib.ListN.{length, take, replicate}
 use Rattle.rules.specs.declared.Table.{Table}
 use Rattle.rules.specs.declared.Done.{Done}
-use Rattle.rules.specs.Numbers.{taskRoom, priorityEnd, regionRoom, queueRoom, storeSize, timerRoom}
+use Rattle.rules.specs.Numbers.{taskRoom, priorityEnd, regionRoom, queueRoom, storeSize, timerRoom, nobody}
 use Rattle.rules.specs.Words.{all, every, padded}
 use Rattle.rules.specs.Tasks.{stopped, ready}
 use Rattle.rules.specs.Timers.{idle}
@@ -73,5 +73,5 @@ zeroTable =
 unfoldable pub fresh : ℕ → ℕ → ℕ → List ℕ → List ℕ → Done
 fresh tasks regions queues priorities bounds =
     cond (configurationInRange tasks regions queues priorities bounds)
-    (done (freshTable tasks regions queues priorities bounds) 0 0 0)
+    (done (freshTable tasks regions queues priorities bounds) 0 0 0 nobody)
     (refused zeroTable 20)

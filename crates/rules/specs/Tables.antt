@@ -6,9 +6,10 @@ use Rattle.rules.specs.declared.Task.{Task}
 use Rattle.rules.specs.declared.Region.{Region}
 use Rattle.rules.specs.declared.Timer.{Timer}
 use Rattle.rules.specs.declared.Table.{Table}
+use Rattle.rules.specs.declared.Elected.{Elected}
 use Rattle.rules.specs.Queues.{Pair, pairs, elements, criteria, front, laid}
 use Rattle.rules.specs.Timers.{idle}
-use Rattle.rules.specs.Election.{election}
+use Rattle.rules.specs.Election.{election, elect}
 
 -- what the columns say of task i
 abbrev pub taskOf : Table → ℕ → Task
@@ -168,6 +169,10 @@ changed i f t = withTask i (f (taskOf t i)) t
 -- "the elected task is found afresh"
 abbrev pub electionOf : Table → ℕ
 electionOf t = election (t .state) (t .priority) (t .holder)
+
+-- the same with the one that it displaces, where `former` was elected before
+abbrev pub electOf : ℕ → Table → Elected
+electOf former t = elect former (t .state) (t .priority) (t .holder)
 
 abbrev pub settled : Table → Table
 settled t = withElected (electionOf t) t

@@ -121,11 +121,18 @@ pub struct Call {
     pub c: u32,
 }
 
+// What an election answers: who is elected, and the former one if it was pushed aside. 255 stands for nobody.
+pub struct Elected {
+    pub task: u8,
+    pub displaced: u8,
+}
+
 pub struct Answer {
     pub status: u8,
     pub value: u32,
     pub key: u8,
     pub elected: u8,
+    pub displaced: u8,
 }
 
 // What a call hands back: the table after it, and the answer.

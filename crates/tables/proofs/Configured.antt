@@ -6,7 +6,7 @@ use mathlib.Core.List.{List}
 use lib.Dec.{ltb}
 use lib.ListN.{length, take}
 use borrow.Author.Tests.{le-leb, lt-leb}
-use Rattle.rules.specs.Numbers.{taskRoom, priorityEnd, queueRoom}
+use Rattle.rules.specs.Numbers.{taskRoom, priorityEnd, queueRoom, nobody}
 use Rattle.rules.specs.Words.{all, every, padded}
 use Rattle.rules.specs.Validity.{countsInRange, boundInRange}
 use Rattle.rules.specs.Answers.{refused}
@@ -39,7 +39,7 @@ module _ (tasks regions queues : ℕ) (priorities bounds : List ℕ) where
         pub accepts : every (λ x. ltb x priorityEnd) (take tasks priorities) ≡ true → every boundInRange (take queues bounds) ≡ true
             → record {
               table = freshBy tasks regions queues (padded taskRoom 0 (take tasks priorities)) (padded queueRoom 0 (take queues bounds));
-              answer = record { status = 0; value = 0; key = 0; elected = 0 };
+              answer = record { status = 0; value = 0; key = 0; elected = 0; displaced = nobody };
             }
             ≡ fresh tasks regions queues priorities bounds
         unfolding fresh freshTable configurationInRange all

@@ -57,5 +57,6 @@ abbrev pub storeless : Front → Table
 storeless f = whole f [] []
 
 -- a table with the answer of an accepted call: "the elected task is the table's own, as it stands after the call"
-abbrev pub answered : Table → ℕ → ℕ → ℕ → Done
-answered t status value key = record { table = t; answer = record { status = status; value = value; key = key; elected = t .elected } }
+abbrev pub answered : Table → ℕ → ℕ → ℕ → ℕ → Done
+answered t status value key displaced =
+    record { table = t; answer = record { status = status; value = value; key = key; elected = t .elected; displaced = displaced } }

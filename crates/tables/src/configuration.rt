@@ -64,6 +64,7 @@ fn out_of_range() -> Done
             value: 0,
             key: 0,
             elected: NOBODY,
+            displaced: NOBODY,
         },
     }
 }
@@ -156,6 +157,7 @@ pub fn fresh<'a>(tasks: u8, regions: u8, queues: u8, priorities: &'a [u8], bound
             value: 0,
             key: 0,
             elected: 0,
+            displaced: NOBODY,
         },
     }
 }

@@ -16,4 +16,5 @@ pub mod Order
 pub mod Damaged
 pub mod Refused
 pub mod Running
+pub mod Displaced
 pub mod Listed

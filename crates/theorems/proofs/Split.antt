@@ -16,7 +16,7 @@ use Rattle.rules.specs.Tasks.{isStopped, signalled}
 use Rattle.rules.specs.Queues.{noneFits}
 use Rattle.rules.specs.Timers.{later, isDue, rung}
 use Rattle.rules.specs.Regions.{heldBy}
-use Rattle.rules.specs.Tables.{taskOf, regionOf, boundOf, queueOf, changed, withTimers, withElected, electionOf, settled}
+use Rattle.rules.specs.Tables.{taskOf, regionOf, boundOf, queueOf, changed, withTimers, withElected, electionOf, settled, electOf}
 use Rattle.rules.specs.Validity.{valid}
 use Rattle.rules.specs.Answers.{done}
 use Rattle.rules.specs.Refusals.{missing, wrongState, leaves, entriesFull, reasons, refusal}
@@ -105,7 +105,7 @@ module _ (k t : Table) (v : valid (mixed k t) ≡ true) where
   step-outer (tick m) = step-tick m
 
 -- a TICK from outside, whatever its numbers say
-pub tick-done : (t : Table) (c : Call) → valid t ≡ true → c .caller ≡ outside → c .operation ≡ TICK → step t c ≡ done (settled (ticked t)) 0 0 0
+pub tick-done : (t : Table) (c : Call) → valid t ≡ true → c .caller ≡ outside → c .operation ≡ TICK → step t c ≡ done (settled (ticked t)) 0 0 0 (electOf (t .elected) (ticked t) .displaced)
 unfolding step refusal reasons missing wrongState leaves effect
 tick-done t c v who is = simp (v, who, is)
 

@@ -4,4 +4,5 @@ pub mod Listed
 pub mod Happenings
 pub mod Refused
 pub mod Running
+pub mod Displaced
 pub mod Tasks

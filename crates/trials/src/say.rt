@@ -17,12 +17,13 @@ fn number(text: &[u8], n: u32) {
     io::print_decimal(1, n as u64);
 }
 
-// The four numbers of an answer, behind the name.
+// The numbers of an answer, behind the name.
 pub(crate) fn answer(a: Answer) {
     number(b": status ", a.status as u32);
     number(b" value ", a.value);
     number(b" key ", a.key as u32);
     number(b" elected ", a.elected as u32);
+    number(b" displaced ", a.displaced as u32);
 }
 
 // The last word of a line.

@@ -73,12 +73,21 @@ pub struct Answer {
     pub key: u8,
     /// The element that RETRIEVE took, or the reply of a query, else 0.
     pub value: u32,
+    /// The task that was pushed aside: elected before the call, still ready, and no longer elected. `None` where there is none, as with
+    /// every refusal and every query.
+    pub displaced: Option<Task>,
 }
 
 impl Answer {
     pub(crate) fn of(number: u64) -> Answer {
-        let [status, elected, key, _kept, value @ ..] = number.to_le_bytes();
-        Answer { status: Status::of(status), elected: Task::new(elected), key, value: u32::from_le_bytes(value) }
+        let [status, elected, key, displaced, value @ ..] = number.to_le_bytes();
+        Answer {
+            status: Status::of(status),
+            elected: Task::new(elected),
+            key,
+            value: u32::from_le_bytes(value),
+            displaced: Task::new(displaced),
+        }
     }
 
     /// The answer, or why there was a refusal.

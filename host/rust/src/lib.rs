@@ -8,9 +8,9 @@
 //! let [zero, one, two] = [0, 1, 2].map(|n| Task::new(n).unwrap());
 //! let mut block = Block::fresh(2, &[5, 5, 2], &[2]).unwrap();
 //! let answer = block.call(zero, Operation::Start { task: two });
-//! assert_eq!((answer.status, answer.elected), (Status::Done, Some(two)));
+//! assert_eq!((answer.status, answer.elected, answer.displaced), (Status::Done, Some(two), Some(zero)));
 //! let answer = block.outside(Outside::Signal { event: Event::new(0).unwrap(), task: one });
-//! assert_eq!((answer.status, answer.elected), (Status::WrongState, Some(two)));
+//! assert_eq!((answer.status, answer.elected, answer.displaced), (Status::WrongState, Some(two), None));
 //! ```
 //!
 //! What would be a misuse doesn't compile. No task can tick:

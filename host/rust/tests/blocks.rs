@@ -65,13 +65,23 @@ fn bytes_and_back() {
     assert_eq!(Block::from_bytes(&[255; SIZE]), Err(Status::NotATable));
 }
 
-/// Drawn calls by drawn callers, begun afresh from time to time: a refused call and a query change nothing, an accepted call leaves a table.
+/// T-08: "the former elected task if it is still ready and no longer elected", read from the block before the call and after it. The elected
+/// task stands at 3, the states from 68 on.
+fn displaced(before: &[u8; SIZE], after: &[u8; SIZE]) -> Option<Task> {
+    let ready = |task: &Task| after[68 + usize::from(task.number())] == 1;
+    Task::new(before[3]).filter(|former| ready(former) && after[3] != former.number())
+}
+
+/// Drawn calls by drawn callers, begun afresh from time to time: a refused call and a query change nothing, an accepted call leaves a table,
+/// and every answer names the displaced task.
 #[test]
 fn drawn_calls() {
+    // The higher its number, the more urgent a task is, so that one that starts or wakes pushes another aside.
+    let priorities: [u8; 20] = std::array::from_fn(|task| 20 - task as u8);
     let mut drawn = Drawn(1);
-    let mut accepted = 0;
+    let (mut accepted, mut pushed) = (0, 0);
     for _ in 0..1000 {
-        let mut bytes = *Block::fresh(16, &[7; 20], &[3; 8]).unwrap().as_bytes();
+        let mut bytes = *Block::fresh(16, &priorities, &[3; 8]).unwrap().as_bytes();
         for _ in 0..100 {
             let before = bytes;
             let caller = if drawn.number() == 0 { drawn.next() as u8 } else { bytes[3] };
@@ -80,13 +90,16 @@ fn drawn_calls() {
                 Ok(_) => assert!(Block::from_bytes(&bytes).is_ok()),
                 Err(_) => assert!(bytes == before),
             }
+            assert_eq!(answer.displaced, displaced(&before, &bytes));
             accepted += u32::from(answer.accepted().is_ok());
+            pushed += u32::from(answer.displaced.is_some());
             let before = bytes;
-            let _ = raw::query(&bytes, drawn.next() as u8, caller, drawn.number(), drawn.number());
+            assert_eq!(raw::query(&bytes, drawn.next() as u8, caller, drawn.number(), drawn.number()).displaced, None);
             assert!(bytes == before);
         }
     }
     assert!(accepted > 10_000, "only {accepted} calls were accepted: the draw is no longer a mix");
+    assert!(pushed > 100, "only {pushed} tasks were pushed aside: the draw is no longer a mix");
 }
 
 /// One drawn byte changed: operation 13 tells whether it is still a table, as `from_bytes` does, and neither changes it.

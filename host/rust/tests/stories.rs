@@ -11,8 +11,14 @@ fn event(number: u8) -> Event {
     Event::new(number).unwrap()
 }
 
+/// An answer that names nobody as displaced.
 fn answer(status: Status, elected: Option<u8>) -> Answer {
-    Answer { status, elected: elected.map(task), key: 0, value: 0 }
+    Answer { status, elected: elected.map(task), key: 0, value: 0, displaced: None }
+}
+
+/// An accepted call after which `elected` is elected in the place of `displaced`.
+fn pushes(elected: u8, displaced: u8) -> Answer {
+    Answer { displaced: Some(task(displaced)), ..answer(Status::Done, Some(elected)) }
 }
 
 const NO_TASK: Option<u8> = None;
@@ -33,7 +39,42 @@ fn p2() {
     assert_eq!(block.call(task(0), Operation::Enter { region }), answer(Status::Done, Some(0)));
     assert_eq!(block.call(task(0), Operation::Start { task: task(2) }), answer(Status::Done, Some(0)));
     assert_eq!(block.call(task(0), Operation::End), answer(Status::InRegion, Some(0)));
-    assert_eq!(block.call(task(0), Operation::Exit { region }), answer(Status::Done, Some(2)));
+    assert_eq!(block.call(task(0), Operation::Exit { region }), pushes(2, 0));
+}
+
+/// T-08: "the former elected task if it is still ready and no longer elected, else 255"; "a refusal gives 255".
+#[test]
+fn pushed_aside() {
+    let (mut block, region) = (example(), Region::new(0).unwrap());
+    let (start, wait) = (|number| Operation::Start { task: task(number) }, |list| Operation::Wait { list, operator: Operator::All });
+    let signal = |number| Outside::Signal { event: event(0), task: task(number) };
+    assert_eq!(block.call(task(0), start(2)), pushes(2, 0));
+    assert_eq!(block.call(task(0), Operation::End), answer(Status::NotElected, Some(2)));
+    // Task 2 waits, ends or stops itself, and so is no longer ready.
+    assert_eq!(block.call(task(2), wait(event(0).into())), answer(Status::Waits, Some(0)));
+    assert_eq!(block.outside(signal(2)), pushes(2, 0));
+    assert_eq!(block.call(task(2), Operation::End), answer(Status::Done, Some(0)));
+    assert_eq!(block.call(task(0), start(2)), pushes(2, 0));
+    assert_eq!(block.call(task(2), Operation::Stop { task: task(2) }), answer(Status::Done, Some(0)));
+    // The holder stays elected, and is pushed aside at the last EXIT.
+    assert_eq!(block.call(task(0), Operation::Enter { region }), answer(Status::Done, Some(0)));
+    assert_eq!(block.call(task(0), start(2)), answer(Status::Done, Some(0)));
+    assert_eq!(block.call(task(0), Operation::Exit { region }), pushes(2, 0));
+    // STOP of another: the caller stays elected.
+    assert_eq!(block.call(task(2), start(1)), answer(Status::Done, Some(2)));
+    assert_eq!(block.call(task(2), Operation::Stop { task: task(0) }), answer(Status::Done, Some(2)));
+    assert_eq!(block.call(task(2), Operation::End), answer(Status::Done, Some(1)));
+    // "of equals the lowest task number": when task 0 starts, and when its timer rings.
+    assert_eq!(block.call(task(1), start(0)), pushes(0, 1));
+    let arm = Operation::Arm { timer: Timer::new(0).unwrap(), event: event(0), delay: Delay::new(1).unwrap() };
+    assert_eq!(block.call(task(0), arm), answer(Status::Done, Some(0)));
+    assert_eq!(block.call(task(0), wait(event(0).into())), answer(Status::Waits, Some(1)));
+    assert_eq!(block.outside(Outside::Tick), pushes(0, 1));
+    // Nobody was elected before the signal.
+    assert_eq!(block.call(task(0), Operation::Stop { task: task(1) }), answer(Status::Done, Some(0)));
+    assert_eq!(block.call(task(0), Operation::Clear { list: event(0).into() }), answer(Status::Done, Some(0)));
+    assert_eq!(block.call(task(0), wait(event(0).into())), answer(Status::Waits, NO_TASK));
+    assert_eq!(block.outside(signal(0)), answer(Status::Done, Some(0)));
 }
 
 /// T-04: a routine 254 entries deep "calls a helper that enters and exits the same region", and goes on protected; the task started
@@ -58,7 +99,7 @@ fn entries() {
         assert_eq!(block.call(task(0), exit), answer(Status::Done, Some(0)));
     }
     assert_eq!(block.call(task(0), Operation::End), answer(Status::InRegion, Some(0)));
-    assert_eq!(block.call(task(0), exit), answer(Status::Done, Some(2)));
+    assert_eq!(block.call(task(0), exit), pushes(2, 0));
     let free = block.clone();
     assert_eq!(block.call(task(2), exit), answer(Status::NotHeld, Some(2)));
     assert_eq!(block, free);
@@ -109,7 +150,7 @@ fn timers() {
     assert_eq!(block.outside(Outside::Tick), answer(Status::Done, NO_TASK));
     assert_eq!(block.outside(Outside::Tick), answer(Status::Done, Some(0)));
     assert_eq!(block.call(task(0), arm), answer(Status::Done, Some(0)));
-    assert_eq!(block.call(task(0), Operation::Start { task: task(2) }), answer(Status::Done, Some(2)));
+    assert_eq!(block.call(task(0), Operation::Start { task: task(2) }), pushes(2, 0));
     assert_eq!(block.call(task(2), arm), answer(Status::WrongState, Some(2)));
     assert_eq!(block.call(task(2), Operation::Stop { task: task(0) }), answer(Status::Done, Some(2)));
     assert_eq!(block.call(task(2), arm), answer(Status::Done, Some(2)));

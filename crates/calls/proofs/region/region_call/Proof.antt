@@ -35,8 +35,8 @@ element-write-t-2 c = search needs
 held-by-requires : tie.Need-held-by-requires
 held-by-requires c κs = search needs
 
-elected-by-requires : tie.Need-elected-by-requires
-elected-by-requires c κs = search needs
+elect-requires : tie.Need-elect-requires
+elect-requires c κs = search needs
 
 returns : tie.Need-returns
 returns c =
@@ -46,7 +46,7 @@ returns c =
     λ es cs z.
     ap frontDone
     (region-step (whole (s .args .t1) es cs) (s .args .k) z (kind s .0) (kind s .1) (mine .wrapping-add-u8 .ensures) (after .region-after .ensures)
-    (c .before .before .before .before .held-by .ensures) (c .elected-by .ensures))
+    (c .before .before .before .before .held-by .ensures) (c .elect .ensures))
 
 pub region-call-spec : {M : Type 1} → statement M
 region-call-spec =
@@ -60,5 +60,5 @@ region-call-spec =
     element-write-t
     element-write-t-2
     held-by-requires
-    elected-by-requires
+    elect-requires
     returns)

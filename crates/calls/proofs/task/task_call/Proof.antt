@@ -32,8 +32,8 @@ target-of-requires c κs = search needs
 cast-i : tie.Need-cast-i
 cast-i c = search needs
 
-element-copy-out-timers-left : tie.Need-element-copy-out-timers-left
-element-copy-out-timers-left c = search needs
+element-copy-out-elect : tie.Need-element-copy-out-elect
+element-copy-out-elect c = search needs
 
 mul-t13 : tie.Need-mul-t13
 mul-t13 c = search needs
@@ -95,8 +95,8 @@ returns c =
 held-by-requires : tie.Need-held-by-requires
 held-by-requires c κs = long (to-start (c .before .before .before .before .before)) .1 .1
 
-elected-by-requires : tie.Need-elected-by-requires
-elected-by-requires c κs =
+elect-requires : tie.Need-elect-requires
+elect-requires c κs =
     let l = long (to-start (c .before .before .before .before .before .before .before .before .before)) in
     (rw length-set (l .1 .0), l .0)
 
@@ -114,7 +114,7 @@ returns-2 c =
     λ es cs z.
     ap frontDone
     (task-changed (whole (s .args .t1) es cs) (s .args .k) z (low s) (to-target (to-after p) .target-of .ensures) (to-after p .task-after .ensures)
-    (to-after p .before .met-by .ensures) (p .pick .ensures) _ _ _ (c .timers-left .ensures) (held .held-by .ensures) (c .before .before .elected-by .ensures))
+    (to-after p .before .met-by .ensures) (p .pick .ensures) _ _ _ (c .timers-left .ensures) (held .held-by .ensures) (c .before .before .elect .ensures))
 
 pub task-call-spec : {M : Type 1} → statement M
 task-call-spec =
@@ -122,7 +122,7 @@ task-call-spec =
     (tie.spec
     target-of-requires
     cast-i
-    element-copy-out-timers-left
+    element-copy-out-elect
     mul-t13
     element-copy-out-t19
     mul-met-by
@@ -141,7 +141,7 @@ task-call-spec =
     element-write-t-4
     returns
     held-by-requires
-    elected-by-requires
+    elect-requires
     cast-timers-left
     timers-left-requires
     returns-2)

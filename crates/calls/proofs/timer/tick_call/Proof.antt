@@ -18,8 +18,8 @@ rung-all-requires c κs = search needs
 held-by-requires : tie.Need-held-by-requires
 held-by-requires c κs = search needs
 
-elected-by-requires : tie.Need-elected-by-requires
-elected-by-requires c κs = search needs
+elect-requires : tie.Need-elect-requires
+elect-requires c κs = search needs
 
 returns : tie.Need-returns
 returns c =
@@ -29,7 +29,7 @@ returns c =
     λ k e es cs z.
     ap frontDone
     (tick-step (whole (later .before .args .t1) es cs) k z e (later .later-by .ensures) (rows .rung-rows .ensures) (rung .rung-all .ensures)
-    (c .before .before .before .before .held-by .ensures) (c .elected-by .ensures))
+    (c .before .before .before .before .held-by .ensures) (c .elect .ensures))
 
 pub tick-call-spec : {M : Type 1} → statement M
 tick-call-spec =
@@ -39,5 +39,5 @@ tick-call-spec =
     rung-rows-requires
     rung-all-requires
     held-by-requires
-    elected-by-requires
+    elect-requires
     returns)

@@ -64,6 +64,21 @@ cast-put-digits-3 c = search needs
 put-digits-requires-4 : tie.Need-put-digits-requires-4
 put-digits-requires-4 c κs = search needs
 
+sub-put-digits-5 : tie.Need-sub-put-digits-5
+sub-put-digits-5 c = search needs
+
+part-put-digits-start-5 : tie.Need-part-put-digits-start-5
+part-put-digits-start-5 c = search needs
+
+part-put-digits-end-5 : tie.Need-part-put-digits-end-5
+part-put-digits-end-5 c = search needs
+
+cast-put-digits-4 : tie.Need-cast-put-digits-4
+cast-put-digits-4 c = search needs
+
+put-digits-requires-5 : tie.Need-put-digits-requires-5
+put-digits-requires-5 c κs = search needs
+
 slice-write-line : tie.Need-slice-write-line
 slice-write-line c = search needs
 
@@ -97,6 +112,11 @@ fill-spec =
     part-put-digits-end-4
     cast-put-digits-3
     put-digits-requires-4
+    sub-put-digits-5
+    part-put-digits-start-5
+    part-put-digits-end-5
+    cast-put-digits-4
+    put-digits-requires-5
     slice-write-line
     same-length
     returns)

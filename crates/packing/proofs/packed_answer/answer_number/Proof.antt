@@ -35,6 +35,15 @@ mul-result-3 c = search needs
 add-result-3 : tie.Need-add-result-3
 add-result-3 c = search needs
 
+cast-result-5 : tie.Need-cast-result-5
+cast-result-5 c = search needs
+
+mul-result-4 : tie.Need-mul-result-4
+mul-result-4 c = search needs
+
+add-result-4 : tie.Need-add-result-4
+add-result-4 c = search needs
+
 returns : tie.Need-returns
 unfolding answerNumber
 returns c = refl
@@ -53,4 +62,7 @@ answer-number-spec =
     cast-result-4
     mul-result-3
     add-result-3
+    cast-result-5
+    mul-result-4
+    add-result-4
     returns)

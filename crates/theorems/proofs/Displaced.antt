@@ -1,0 +1,166 @@
+-- Who is pushed aside: what the definition says of any election, and which calls leave the former one not ready.
+use Prim.Native.Nat.{ℕ, _<_}
+use mathlib.Core.Path.{_≡_, refl, sym, ap, _∙_}
+use mathlib.Core.Logic.{_≢_, _⊎_, inl, inr}
+use mathlib.Core.Bool.{Bool, true, false, cond, not, _&&_, and-false, false≢true}
+use mathlib.Core.List.{List}
+use native.Mathlib.Omega.{arith}
+use lib.Dec.{eqb}
+use borrow.Author.Tests.{eqb-true, eqb-false, eq-eqb, ne-eqb, not-true}
+use Rattle.rules.specs.declared.Task.{Task}
+use Rattle.rules.specs.declared.Table.{Table}
+use Rattle.rules.specs.declared.Call.{Call}
+use Rattle.rules.specs.Numbers.{nobody, STOP, END, SIGNAL, WAIT, TICK}
+use Rattle.rules.specs.Words.{isZero}
+use Rattle.rules.specs.Events.{met}
+use Rattle.rules.specs.Tasks.{waiting, asStopped, waited}
+use Rattle.rules.specs.Election.{readyAt, displacedBy}
+use Rattle.rules.specs.Tables.{taskOf, changed, electionOf}
+use Rattle.rules.specs.Refusals.{refusal}
+use Rattle.rules.specs.Effects.{effect}
+use Rattle.rules.specs.Step.{step}
+use Rattle.rules.proofs.Bools.{_&_, and-left, and-right, not-intro}
+use Rattle.rules.proofs.Effects.{each-effect}
+use Rattle.rules.proofs.Refusals.{Accepted, accepted-facts}
+use Rattle.rules.proofs.Rules.{Parts, counts-fit}
+use Rattle.rules.proofs.Validity.{parts-of}
+use Rattle.theorems.specs.Displaced.{displaced, PushedAside, DisplacedAside, StaysUndisplaced, LeavesUndisplaced, Succeeds}
+use Rattle.theorems.proofs.Columns.{changed-same}
+use Rattle.theorems.proofs.Kept.{Caller, caller-of, caller-below, numbered}
+
+-- ---- of one election, whoever was elected before
+
+module _ (former : ℕ) (states : List ℕ) (who : ℕ) where
+  abbrev aside : Bool
+  aside = readyAt states former && not (eqb former who)
+
+  displaced-then : displacedBy former states who ≢ nobody
+      → (former ≡ displacedBy former states who) × (readyAt states (displacedBy former states who) ≡ true) × (who ≢ displacedBy former states who)
+  unfolding displacedBy
+  displaced-then n = go aside refl
+    where
+      go : (b : Bool) → aside ≡ b → (former ≡ cond aside former nobody) × (readyAt states (cond aside former nobody) ≡ true) × (who ≢ cond aside former nobody)
+      go true e = rw e (refl, and-left _ _ e, λ same. eqb-false former who (not-true _ (and-right (readyAt states former) _ e)) (sym same))
+      go false e = absurd (n (rw e refl))
+
+  not-ready-then : readyAt states former ≡ false → displacedBy former states who ≡ nobody
+  unfolding displacedBy
+  not-ready-then e = rw e refl
+
+  same-then : who ≡ former → displacedBy former states who ≡ nobody
+  unfolding displacedBy
+  same-then e = rw (eq-eqb former who (sym e), and-false) refl
+
+  other-then : who ≢ former → readyAt states former ≡ true → displacedBy former states who ≡ former
+  unfolding displacedBy
+  other-then n e = rw (e, ne-eqb former who (λ same. n (sym same))) refl
+
+-- ---- of every call
+
+pub displaced-aside : DisplacedAside
+unfolding step
+displaced-aside t c = go (isZero (refusal t c)) refl
+  where
+    go : (b : Bool) → isZero (refusal t c) ≡ b → displaced t c ≢ nobody → PushedAside t c
+    go true z n =
+        let u = effect t c .table in
+        let d = displaced-then (t .elected) (u .state) (electionOf u) (λ e. n (rw (displaced, z) e)) in
+        record { was = rw (displaced, z) (d .0); ready = rw (displaced, z) (d .1); another = rw (displaced, z) (d .2) }
+    go false z n = absurd (n (rw (displaced, z) refl))
+
+pub stays-undisplaced : StaysUndisplaced
+unfolding step
+stays-undisplaced t c = go (isZero (refusal t c)) refl
+  where
+    go : (b : Bool) → isZero (refusal t c) ≡ b → step t c .table .elected ≡ t .elected → displaced t c ≡ nobody
+    go true z e = let u = effect t c .table in rw (displaced, z) (same-then (t .elected) (u .state) (electionOf u) (rw z at e))
+    go false z e = rw (displaced, z) refl
+
+pub succeeds : Succeeds
+unfolding step
+succeeds t c = go (isZero (refusal t c)) refl
+  where
+    go : (b : Bool) → isZero (refusal t c) ≡ b → step t c .table .elected ≢ t .elected
+        → (t .elected ≡ nobody) ⊎ ((readyAt (step t c .table .state) (t .elected) ≡ false) ⊎ (displaced t c ≡ t .elected))
+    go true z n = still (readyAt (effect t c .table .state) (t .elected)) refl
+      where
+        still : (b : Bool) → readyAt (effect t c .table .state) (t .elected) ≡ b
+            → (t .elected ≡ nobody) ⊎ ((readyAt (step t c .table .state) (t .elected) ≡ false) ⊎ (displaced t c ≡ t .elected))
+        still true e =
+            inr (inr (rw (displaced, z) (other-then (t .elected) (effect t c .table .state) (electionOf (effect t c .table)) (λ same. n (rw z same)) e)))
+        still false e = inr (inl (rw z e))
+    go false z n = absurd (n (rw z refl))
+
+-- ---- the calls behind which their caller isn't ready
+
+module _ (t : Table) (c : Call) (o : Accepted t c) where
+  p : Parts t
+  p = parts-of t (o .is-valid)
+
+  -- what is said of a task after it has changed is what the change makes of it
+  state-then : (i : ℕ) → i < t .tasks → (f : Task → Task) (s : ℕ) → f (taskOf t i) .state ≡ s → taskOf (changed i f t) i .state ≡ s
+  state-then i l f s e = ap (λ r. r .state) (changed-same t (p .shape) i (omega (arith, counts-fit _ _ _ (p .counts) .0)) f) ∙ e
+
+  -- neither SIGNAL nor TICK: the caller is the elected task
+  caller : c .operation ≢ SIGNAL → c .operation ≢ TICK → Caller t (c .caller)
+  caller s k = caller-of t (c .caller) (rw (ne-eqb (c .operation) SIGNAL s, ne-eqb (c .operation) TICK k) at (o .barred)) (o .not-elected)
+
+  abbrev Gone : Type 0
+  Gone = readyAt (effect t c .table .state) (t .elected) ≡ false
+
+  -- only a WAIT has another status than 0
+  status-plain : not (eqb (c .operation) WAIT) ≡ true → effect t c .status ≡ 0
+  status-plain =
+      each-effect t c (λ n e. not (eqb n WAIT) ≡ true → e .status ≡ 0)
+      ((λ h. refl) & (λ h. refl) & (λ h. refl) & (λ h. refl) & (λ h. absurd (false≢true h)) & (λ h. refl) & (λ h. refl)
+      & (λ h. refl) & (λ h. refl) & (λ h. refl) & (λ h. refl) & (λ h. refl) & (λ h. refl) & tt)
+      (λ n h. refl)
+
+  gone-stopped : (i : ℕ) → i ≡ t .elected → i < t .tasks → effect t c .table .state ≡ changed i asStopped t .state → Gone
+  gone-stopped i is l e = rw (e, ← is) (rw (state-then i l asStopped 0 refl) refl)
+
+  gone-end : c .operation ≡ END → Gone
+  unfolding effect
+  gone-end e =
+      let w = caller (omega (arith, e)) (omega (arith, e)) in
+      gone-stopped (c .caller) (w .is) (caller-below t p (c .caller) w) (rw e refl)
+
+  gone-stop : c .operation ≡ STOP → c .a ≡ c .caller → Gone
+  unfolding effect
+  gone-stop e own =
+      let w = caller (omega (arith, e)) (omega (arith, e)) in
+      gone-stopped (c .caller) (w .is) (caller-below t p (c .caller) w) (rw (e, own) refl)
+
+  gone-wait : c .operation ≡ WAIT → effect t c .status ≡ 1 → Gone
+  unfolding effect waited
+  gone-wait e s = go (met (c .b) (c .a) (taskOf t (c .caller) .arrived)) refl
+    where
+      w : Caller t (c .caller)
+      w = caller (omega (arith, e)) (omega (arith, e))
+
+      go : (b : Bool) → met (c .b) (c .a) (taskOf t (c .caller) .arrived) ≡ b → Gone
+      go true m = let no : _≡_ {A = ℕ} 0 1 = rw (e, m) at s in absurd (omega arith)
+      go false m =
+          let now = state-then (c .caller) (caller-below t p (c .caller) w) (waited (c .a) (c .b)) waiting (rw m refl) in
+          rw (e, ← w .is) (rw now refl)
+
+pub leaves-undisplaced : LeavesUndisplaced
+unfolding step
+leaves-undisplaced t c = go (isZero (refusal t c)) refl
+  where
+    go : (b : Bool) → isZero (refusal t c) ≡ b
+        → (step t c .answer .status ≡ 1) ⊎ ((c .operation ≡ END) ⊎ ((c .operation ≡ STOP) × (c .a ≡ c .caller))) → displaced t c ≡ nobody
+    go false z l = rw (displaced, z) refl
+    go true z l = rw (displaced, z) (not-ready-then (t .elected) _ _ (gone l))
+      where
+        o : Accepted t c
+        o = accepted-facts t c (eqb-true _ 0 z)
+
+        waits : (b : Bool) → eqb (c .operation) WAIT ≡ b → effect t c .status ≡ 1 → Gone t c o
+        waits true e s = gone-wait t c o (eqb-true _ _ e) s
+        waits false e s = let no = sym (status-plain t c o (not-intro _ e)) ∙ s in absurd (omega arith)
+
+        gone : (step t c .answer .status ≡ 1) ⊎ ((c .operation ≡ END) ⊎ ((c .operation ≡ STOP) × (c .a ≡ c .caller))) → Gone t c o
+        gone (inl s) = waits (eqb (c .operation) WAIT) refl (rw z at s)
+        gone (inr (inl e)) = gone-end t c o e
+        gone (inr (inr e)) = gone-stop t c o (e .0) (e .1)
