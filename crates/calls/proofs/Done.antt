@@ -2,14 +2,14 @@
 use Prim.Native.Nat.{ℕ, zero, suc, _+_, _-_, _%_, _<_, _≤_}
 use mathlib.Core.Path.{_≡_, refl, sym, ap, ap₂, _∙_}
 use mathlib.Core.Logic.{_≢_}
-use mathlib.Core.Bool.{Bool, true, false, cond, not, _&&_, _||_, and-false}
+use mathlib.Core.Bool.{Bool, true, false, cond, not, _&&_, _||_}
 use mathlib.Core.List.{List, [], _∷_, map}
 use native.Mathlib.Omega.{arith}
 use native.Mathlib.Numerals.{add-one}
 use native.Mathlib.Nat.{mod-eq-of-lt}
 use lib.Dec.{eqb, ltb}
 use lib.ListN.{getD, set, length}
-use borrow.Author.Tests.{eq-eqb, ne-eqb, ltb-true, ltb-false, leb-false, not-false}
+use borrow.Author.Tests.{ne-eqb, ltb-true, ltb-false, leb-false, not-false}
 use Rattle.rules.specs.declared.Task.{Task}
 use Rattle.rules.specs.declared.Region.{Region}
 use Rattle.rules.specs.declared.Timer.{Timer}
@@ -22,14 +22,14 @@ use Rattle.rules.specs.Events.{met}
 use Rattle.rules.specs.Regions.{held}
 use Rattle.rules.specs.Queues.{Pair, pair, firstPlace}
 use Rattle.rules.specs.Timers.{later, rung}
-use Rattle.rules.specs.Election.{displacedBy, electBy}
-use Rattle.rules.specs.Tables.{taskOf, regionOf, timerOf, lengthOf, boundOf, queueOf, withTask, withRegion, withElected, electOf, withStore, withTimers}
+use Rattle.rules.specs.Election.{electBy}
+use Rattle.rules.specs.Tables.{taskOf, regionOf, timerOf, lengthOf, boundOf, queueOf, withTask, withRegion, withElected, electionOf, electOf, withStore, withTimers}
 use Rattle.rules.specs.Answers.{done}
 use Rattle.rules.specs.Refusals.{missing, refusal}
 use Rattle.rules.specs.Effects.{Effect, plain, ticked, effect}
 use Rattle.rules.specs.Step.{accepted, step}
 use Rattle.rules.proofs.Bools.{or-right}
-use Rattle.rules.proofs.Election.{elect-by}
+use Rattle.rules.proofs.Election.{elect-by, same-undisplaced}
 use Rattle.rules.proofs.Queues.{Sound, queue-length, sent-stored}
 use Rattle.rules.proofs.Rules.{Parts}
 use Rattle.rules.proofs.ValidQueues.{sound, bound-below}
@@ -63,11 +63,6 @@ as-answered : (u : Table) (b : Bool) (displaced : ℕ) → done u (cond b 1 0) 0
 as-answered u true displaced = refl
 as-answered u false displaced = refl
 
--- who stays elected is not displaced
-pub not-displaced : (former : ℕ) (states : List ℕ) → displacedBy former states former ≡ nobody
-unfolding displacedBy
-not-displaced former states = rw (eq-eqb former former refl, and-false)
-
 -- an entry stored again where it stands
 set-own : (xs : List ℕ) (i : ℕ) → set xs i (getD xs i 0) ≡ xs
 set-own [] i = refl
@@ -88,7 +83,7 @@ module _ (t : Table) (c : Call) (z : refusal t c ≡ 0) where
   stays-is : stays ≡ electOf (t .elected) t
   stays-is =
       ap₂ (λ who other. record { task = who; displaced = other }) (parts .elected)
-      (sym (not-displaced (t .elected) (t .state)) ∙ ap (displacedBy (t .elected) (t .state)) (parts .elected))
+      (sym (same-undisplaced (t .elected) (t .state) (electionOf t) (sym (parts .elected))))
 
   -- ---- START, STOP, END, SIGNAL, WAIT, CLEAR
 

@@ -15,13 +15,13 @@ use Rattle.rules.specs.Step.{step}
 use Rattle.theorems.specs.Kept.{afterAll}
 
 -- 1 for an accepted call of this operation that names region r, else 0
-abbrev pub one : ℕ → ℕ → Table → Call → ℕ
-one operation r t c = cond (isZero (refusal t c) && (eqb (c .operation) operation && eqb (c .a) r)) 1 0
+abbrev pub oneIfAccepted : ℕ → ℕ → Table → Call → ℕ
+oneIfAccepted operation r t c = cond (isZero (refusal t c) && (eqb (c .operation) operation && eqb (c .a) r)) 1 0
 
 -- how many of some calls in turn are such
 abbrev pub acceptedIn : ℕ → ℕ → Table → List Call → ℕ
 acceptedIn operation r t [] = 0
-acceptedIn operation r t (c ∷ cs) = one operation r t c + acceptedIn operation r (step t c .table) cs
+acceptedIn operation r t (c ∷ cs) = oneIfAccepted operation r t c + acceptedIn operation r (step t c .table) cs
 
 -- of each region: as often as it was entered, before these calls and by them, so often it was left or is still to be left
 abbrev pub ExitsEntered : Type 0

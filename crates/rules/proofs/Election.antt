@@ -2,12 +2,12 @@
 use Prim.Native.Nat.{ℕ, zero, suc, _+_, _<_, _≤_, min}
 use mathlib.Core.Path.{_≡_, refl, sym, ap, _∙_}
 use mathlib.Core.Logic.{_≢_, _↔_, _⊎_, inl, inr, ⊎-elim}
-use mathlib.Core.Bool.{Bool, true, false, cond, false≢true}
+use mathlib.Core.Bool.{Bool, true, false, cond, not, _&&_, and-false, false≢true}
 use mathlib.Core.List.{List}
 use native.Mathlib.Omega.{arith}
 use native.Mathlib.Numerals.{add-one}
 use lib.Dec.{eqb, ltb}
-use borrow.Author.Tests.{eqb-true, eqb-false, eq-eqb, ne-eqb, ltb-true, ltb-false}
+use borrow.Author.Tests.{eqb-true, eqb-false, eq-eqb, ne-eqb, ltb-true, ltb-false, not-true}
 use Rattle.rules.specs.Numbers.{taskRoom, priorityEnd, nobody}
 use Rattle.rules.specs.Words.{isZero}
 use Rattle.rules.specs.Regions.{held, occupied, holderOf}
@@ -205,3 +205,30 @@ pub elect-by : (former : ℕ) (states priorities holders : List ℕ)
     → electBy former (held holders) states priorities ≡ elect former states priorities holders
 elect-by former states priorities holders =
     ap (λ who. record { task = who; displaced = displacedBy former states who }) (election-by states priorities holders)
+
+-- ---- who is displaced, whoever was elected before
+
+module _ (former : ℕ) (states : List ℕ) (who : ℕ) where
+  abbrev aside : Bool
+  aside = readyAt states former && not (eqb former who)
+
+  pub displaced-given : displacedBy former states who ≢ nobody
+      → (former ≡ displacedBy former states who) × (readyAt states (displacedBy former states who) ≡ true) × (who ≢ displacedBy former states who)
+  unfolding displacedBy
+  displaced-given n = go aside refl
+    where
+      go : (b : Bool) → aside ≡ b → (former ≡ cond aside former nobody) × (readyAt states (cond aside former nobody) ≡ true) × (who ≢ cond aside former nobody)
+      go true e = rw e (refl, and-left _ _ e, λ same. eqb-false former who (not-true _ (and-right (readyAt states former) _ e)) (sym same))
+      go false e = absurd (n (rw e refl))
+
+  pub unready-undisplaced : readyAt states former ≡ false → displacedBy former states who ≡ nobody
+  unfolding displacedBy
+  unready-undisplaced e = rw e refl
+
+  pub same-undisplaced : who ≡ former → displacedBy former states who ≡ nobody
+  unfolding displacedBy
+  same-undisplaced e = rw (eq-eqb former who (sym e), and-false) refl
+
+  pub other-displaced : who ≢ former → readyAt states former ≡ true → displacedBy former states who ≡ former
+  unfolding displacedBy
+  other-displaced n e = rw (e, ne-eqb former who (λ same. n (sym same))) refl

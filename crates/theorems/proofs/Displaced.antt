@@ -1,12 +1,11 @@
--- Who is pushed aside: what the definition says of any election, and which calls leave the former one not ready.
+-- Who is pushed aside by a call, and the calls behind which the former elected task isn't ready.
 use Prim.Native.Nat.{ℕ, _<_}
 use mathlib.Core.Path.{_≡_, refl, sym, ap, _∙_}
 use mathlib.Core.Logic.{_≢_, _⊎_, inl, inr}
-use mathlib.Core.Bool.{Bool, true, false, cond, not, _&&_, and-false, false≢true}
-use mathlib.Core.List.{List}
+use mathlib.Core.Bool.{Bool, true, false, not, false≢true}
 use native.Mathlib.Omega.{arith}
 use lib.Dec.{eqb}
-use borrow.Author.Tests.{eqb-true, eqb-false, eq-eqb, ne-eqb, not-true}
+use borrow.Author.Tests.{eqb-true, eqb-false, ne-eqb}
 use Rattle.rules.specs.declared.Task.{Task}
 use Rattle.rules.specs.declared.Table.{Table}
 use Rattle.rules.specs.declared.Call.{Call}
@@ -14,12 +13,13 @@ use Rattle.rules.specs.Numbers.{nobody, STOP, END, SIGNAL, WAIT, TICK}
 use Rattle.rules.specs.Words.{isZero}
 use Rattle.rules.specs.Events.{met}
 use Rattle.rules.specs.Tasks.{waiting, asStopped, waited}
-use Rattle.rules.specs.Election.{readyAt, displacedBy}
+use Rattle.rules.specs.Election.{readyAt}
 use Rattle.rules.specs.Tables.{taskOf, changed, electionOf}
 use Rattle.rules.specs.Refusals.{refusal}
 use Rattle.rules.specs.Effects.{effect}
 use Rattle.rules.specs.Step.{step}
-use Rattle.rules.proofs.Bools.{_&_, and-left, and-right, not-intro}
+use Rattle.rules.proofs.Bools.{_&_, not-intro}
+use Rattle.rules.proofs.Election.{displaced-given, unready-undisplaced, same-undisplaced, other-displaced}
 use Rattle.rules.proofs.Effects.{each-effect}
 use Rattle.rules.proofs.Refusals.{Accepted, accepted-facts}
 use Rattle.rules.proofs.Rules.{Parts, counts-fit}
@@ -27,33 +27,6 @@ use Rattle.rules.proofs.Validity.{parts-of}
 use Rattle.theorems.specs.Displaced.{displaced, PushedAside, DisplacedAside, StaysUndisplaced, LeavesUndisplaced, Succeeds}
 use Rattle.theorems.proofs.Columns.{changed-same}
 use Rattle.theorems.proofs.Kept.{Caller, caller-of, caller-below, numbered}
-
--- ---- of one election, whoever was elected before
-
-module _ (former : ℕ) (states : List ℕ) (who : ℕ) where
-  abbrev aside : Bool
-  aside = readyAt states former && not (eqb former who)
-
-  displaced-then : displacedBy former states who ≢ nobody
-      → (former ≡ displacedBy former states who) × (readyAt states (displacedBy former states who) ≡ true) × (who ≢ displacedBy former states who)
-  unfolding displacedBy
-  displaced-then n = go aside refl
-    where
-      go : (b : Bool) → aside ≡ b → (former ≡ cond aside former nobody) × (readyAt states (cond aside former nobody) ≡ true) × (who ≢ cond aside former nobody)
-      go true e = rw e (refl, and-left _ _ e, λ same. eqb-false former who (not-true _ (and-right (readyAt states former) _ e)) (sym same))
-      go false e = absurd (n (rw e refl))
-
-  not-ready-then : readyAt states former ≡ false → displacedBy former states who ≡ nobody
-  unfolding displacedBy
-  not-ready-then e = rw e refl
-
-  same-then : who ≡ former → displacedBy former states who ≡ nobody
-  unfolding displacedBy
-  same-then e = rw (eq-eqb former who (sym e), and-false) refl
-
-  other-then : who ≢ former → readyAt states former ≡ true → displacedBy former states who ≡ former
-  unfolding displacedBy
-  other-then n e = rw (e, ne-eqb former who (λ same. n (sym same))) refl
 
 -- ---- of every call
 
@@ -64,7 +37,7 @@ displaced-aside t c = go (isZero (refusal t c)) refl
     go : (b : Bool) → isZero (refusal t c) ≡ b → displaced t c ≢ nobody → PushedAside t c
     go true z n =
         let u = effect t c .table in
-        let d = displaced-then (t .elected) (u .state) (electionOf u) (λ e. n (rw (displaced, z) e)) in
+        let d = displaced-given (t .elected) (u .state) (electionOf u) (λ e. n (rw (displaced, z) e)) in
         record { was = rw (displaced, z) (d .0); ready = rw (displaced, z) (d .1); another = rw (displaced, z) (d .2) }
     go false z n = absurd (n (rw (displaced, z) refl))
 
@@ -73,23 +46,23 @@ unfolding step
 stays-undisplaced t c = go (isZero (refusal t c)) refl
   where
     go : (b : Bool) → isZero (refusal t c) ≡ b → step t c .table .elected ≡ t .elected → displaced t c ≡ nobody
-    go true z e = let u = effect t c .table in rw (displaced, z) (same-then (t .elected) (u .state) (electionOf u) (rw z at e))
+    go true z e = let u = effect t c .table in rw (displaced, z) (same-undisplaced (t .elected) (u .state) (electionOf u) (rw z at e))
     go false z e = rw (displaced, z) refl
 
 pub succeeds : Succeeds
 unfolding step
-succeeds t c = go (isZero (refusal t c)) refl
+succeeds t c = go (eqb (t .elected) nobody) (isZero (refusal t c)) (readyAt (effect t c .table .state) (t .elected)) refl refl refl
   where
-    go : (b : Bool) → isZero (refusal t c) ≡ b → step t c .table .elected ≢ t .elected
-        → (t .elected ≡ nobody) ⊎ ((readyAt (step t c .table .state) (t .elected) ≡ false) ⊎ (displaced t c ≡ t .elected))
-    go true z n = still (readyAt (effect t c .table .state) (t .elected)) refl
-      where
-        still : (b : Bool) → readyAt (effect t c .table .state) (t .elected) ≡ b
-            → (t .elected ≡ nobody) ⊎ ((readyAt (step t c .table .state) (t .elected) ≡ false) ⊎ (displaced t c ≡ t .elected))
-        still true e =
-            inr (inr (rw (displaced, z) (other-then (t .elected) (effect t c .table .state) (electionOf (effect t c .table)) (λ same. n (rw z same)) e)))
-        still false e = inr (inl (rw z e))
-    go false z n = absurd (n (rw z refl))
+    go : (none b still : Bool) → eqb (t .elected) nobody ≡ none → isZero (refusal t c) ≡ b → readyAt (effect t c .table .state) (t .elected) ≡ still
+        → step t c .table .elected ≢ t .elected
+        → (t .elected ≡ nobody) ⊎ ((readyAt (step t c .table .state) (t .elected) ≡ false) ⊎ (displaced t c ≢ nobody))
+    go true b still f z e n = inl (eqb-true _ _ f)
+    go false true false f z e n = inr (inl (rw z e))
+    go false true true f z e n =
+        let u = effect t c .table in
+        let former = other-displaced (t .elected) (u .state) (electionOf u) (λ same. n (rw z same)) e in
+        inr (inr (λ none. eqb-false _ _ f (sym former ∙ rw (displaced, z) at none)))
+    go false false still f z e n = absurd (n (rw z refl))
 
 -- ---- the calls behind which their caller isn't ready
 
@@ -151,7 +124,7 @@ leaves-undisplaced t c = go (isZero (refusal t c)) refl
     go : (b : Bool) → isZero (refusal t c) ≡ b
         → (step t c .answer .status ≡ 1) ⊎ ((c .operation ≡ END) ⊎ ((c .operation ≡ STOP) × (c .a ≡ c .caller))) → displaced t c ≡ nobody
     go false z l = rw (displaced, z) refl
-    go true z l = rw (displaced, z) (not-ready-then (t .elected) _ _ (gone l))
+    go true z l = rw (displaced, z) (unready-undisplaced (t .elected) _ _ (gone l))
       where
         o : Accepted t c
         o = accepted-facts t c (eqb-true _ 0 z)

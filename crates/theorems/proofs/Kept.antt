@@ -23,7 +23,7 @@ use Rattle.rules.specs.Validity.{shaped, valid}
 use Rattle.rules.specs.Refusals.{notElected, absent, badKey, badDelay, stoppedAt, missing, wrongState, leaves, refusal}
 use Rattle.rules.specs.Effects.{stoppedTable, nothing, operations, effect}
 use Rattle.rules.specs.Step.{step}
-use Rattle.rules.proofs.Bools.{given, or-left, or-right, not-intro}
+use Rattle.rules.proofs.Bools.{_&_, given, or-left, or-right, not-intro}
 use Rattle.theorems.proofs.Tasks.{signalled-stopped, signalled-ready}
 use Rattle.rules.proofs.Rules.{Parts}
 use Rattle.rules.proofs.ValidTasks.{row-right, elected-ready, elected-below}
@@ -192,7 +192,8 @@ module _ (t : Table) (p : Parts t) where
     effect-keeps : Accepted t c → valid t ≡ true → valid (settled (effect t c .table)) ≡ true
     effect-keeps o v =
         each-effect t c (λ n e. Accepted t (numbered n c) → valid (settled (e .table)) ≡ true)
-        (start-keeps, (stop-keeps, (end-keeps, (signal-keeps, (wait-keeps, (clear-keeps, (enter-keeps, (exit-keeps, (send-keeps, (retrieve-keeps, (arm-keeps, (disarm-keeps, (tick-keeps, tt)))))))))))))
+        (start-keeps & stop-keeps & end-keeps & signal-keeps & wait-keeps & clear-keeps & enter-keeps & exit-keeps & send-keeps & retrieve-keeps
+        & arm-keeps & disarm-keeps & tick-keeps & tt)
         (λ n a. subst (λ u. valid u ≡ true) (ap (λ e. withElected e t) (p .elected)) v)
         o
 

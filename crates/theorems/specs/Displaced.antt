@@ -35,4 +35,4 @@ LeavesUndisplaced =
 abbrev pub Succeeds : Type 0
 Succeeds =
     (t : Table) (c : Call) → step t c .table .elected ≢ t .elected
-    → (t .elected ≡ nobody) ⊎ ((readyAt (step t c .table .state) (t .elected) ≡ false) ⊎ (displaced t c ≡ t .elected))
+    → (t .elected ≡ nobody) ⊎ ((readyAt (step t c .table .state) (t .elected) ≡ false) ⊎ (displaced t c ≢ nobody))

@@ -17,7 +17,9 @@ Inv-loop f₀ n each log element₀ criterion₀ answers₀ known i₀ f element
 abbrev μ-loop : tie.MeasureT-loop
 μ-loop f₀ n each log element₀ criterion₀ answers₀ known i₀ f element criterion answers i = n - i
 
-sizes : (c : tie.Start Inv-loop μ-loop) → (length (c .args .element .now) ≡ storeSize) × ((length (c .args .criterion .now) ≡ storeSize) × ((5 * c .args .n ≤ length (c .args .log .now)) × (c .args .n ≤ length (c .args .answers .now))))
+sizes : (c : tie.Start Inv-loop μ-loop)
+    → (length (c .args .element .now) ≡ storeSize)
+    × ((length (c .args .criterion .now) ≡ storeSize) × ((5 * c .args .n ≤ length (c .args .log .now)) × (c .args .n ≤ length (c .args .answers .now))))
 sizes c = (search needs, (search needs, (search needs, search needs)))
 
 -- ---- the way back, from call to call
