@@ -7,6 +7,8 @@ pub mod Regions
 pub mod Queues
 pub mod Timers
 pub mod Election
+pub mod Urgency
+pub mod Circles
 pub mod Tables
 pub mod Validity
 pub mod Checks

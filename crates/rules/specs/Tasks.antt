@@ -15,6 +15,10 @@ ready = 1
 abbrev pub waiting : ℕ
 waiting = 2
 
+-- "STATE 3 means waiting for a region"
+abbrev pub suspended : ℕ
+suspended = 3
+
 abbrev pub isStopped : Task → Bool
 isStopped r = eqb (r .state) stopped
 

@@ -41,6 +41,15 @@ past n room p = below room (λ i. ltb i n || p i)
 unfoldable pub padded {ℓ} : {A : Type ℓ} → ℕ → A → List A → List A
 padded room filling xs = xs ++ replicate (room - length xs) filling
 
+-- the values of the numbers below n
+unfoldable pub column : ℕ → (ℕ → ℕ) → List ℕ
+column zero value = []
+column (suc n) value = column n value ++ (value n ∷ [])
+
+-- of a stored number: 0 names nobody and nothing, any other the one before it
+abbrev pub names : ℕ → ℕ → Bool
+names entry n = eqb entry (suc n)
+
 -- the list with the entry at i changed by f
 abbrev pub altered {ℓ} : {A : Type ℓ} → ℕ → (A → A) → List A → List A
 altered i f [] = []

@@ -37,6 +37,8 @@ pub const READY: u8 = 1;
 
 pub const WAITING: u8 = 2;
 
+pub const SUSPENDED: u8 = 3;
+
 // The thirteen operations.
 pub const START: u8 = 0;
 
