@@ -19,3 +19,11 @@ pub mod Entries
 pub mod Clock
 pub mod Quick
 pub mod Rows
+pub mod Columns
+pub mod Smallest
+pub mod Pigeons
+pub mod Ways
+pub mod Chains
+pub mod Urgency
+pub mod Circles
+pub mod CirclesKept
