@@ -1,16 +1,16 @@
--- With no circle, more tasks left change no urgency.
-use Prim.Native.Nat.{ℕ, zero, suc, _≤_}
+-- With no circle, more tasks left change no urgency, and a holder is never less urgent than a task that it holds up.
+use Prim.Native.Nat.{ℕ, zero, suc, _<_, _≤_}
 use mathlib.Core.Path.{_≡_}
 use mathlib.Core.Bool.{true}
 use mathlib.Core.List.{List}
 use native.Mathlib.Omega.{arith}
 use lib.ListN.{getD}
 use Rattle.rules.specs.Numbers.{taskRoom, priorityEnd}
-use Rattle.rules.specs.Urgency.{taskUrgency}
+use Rattle.rules.specs.Urgency.{taskUrgency, urgencies}
 use Rattle.rules.specs.Circles.{ends, noCircle}
 use Rattle.rules.proofs.Counts.{below-at}
-use Rattle.rules.proofs.Chains.{Chain, chain-short}
-use Rattle.rules.proofs.Urgency.{urgency-reach, urgency-had}
+use Rattle.rules.proofs.Chains.{Waits, Chain, chain-short}
+use Rattle.rules.proofs.Urgency.{urgency-link, urgency-reach, urgencies-at, urgency-had}
 
 module _ (priority awaits opened holder : List ℕ) (small : (i : ℕ) → getD priority i 0 ≤ priorityEnd) where
   -- more left never makes it larger
@@ -39,3 +39,10 @@ module _ (priority awaits opened holder : List ℕ) (small : (i : ℕ) → getD 
         let same = had .same in
         let falls = urgency-falls taskRoom more i l in
         omega arith
+
+    pub holder-urgent : (j i : ℕ) → i < taskRoom → Waits awaits opened holder j i
+        → getD (urgencies priority awaits opened holder) i 0 ≤ getD (urgencies priority awaits opened holder) j 0
+    holder-urgent j i l w =
+        let settled = urgency-settled (suc taskRoom) i (omega arith) in
+        let link = urgency-link priority awaits opened holder taskRoom j i w in
+        rw (urgencies-at priority awaits opened holder i l, urgencies-at priority awaits opened holder j (w .task-known)) (omega arith)

@@ -27,3 +27,5 @@ pub mod Chains
 pub mod Urgency
 pub mod Circles
 pub mod CirclesKept
+pub mod Heirs
+pub mod ChainsKept

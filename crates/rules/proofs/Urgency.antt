@@ -9,13 +9,13 @@ use lib.Dec.{leb}
 use lib.ListN.{getD, length}
 use borrow.Author.Tests.{eqb-true, leb-true, leb-false}
 use Rattle.rules.specs.Numbers.{taskRoom, regionRoom, priorityEnd}
-use Rattle.rules.specs.Words.{isZero}
+use Rattle.rules.specs.Words.{isZero, column}
 use Rattle.rules.specs.Election.{smallest}
-use Rattle.rules.specs.Urgency.{awaiting, holding, nobodyAwaits, urgencyBy, regionUrgency, taskUrgency, urgencies}
+use Rattle.rules.specs.Urgency.{awaiting, holding, nobodyAwaits, stateWith, statesWith, urgencyBy, regionUrgency, taskUrgency, urgencies}
 use Rattle.rules.proofs.Counts.{below-at}
 use Rattle.rules.proofs.Election.{smallest-le, smallest-had}
 use Rattle.rules.proofs.Smallest.{smallest-none}
-use Rattle.rules.proofs.Columns.{column-is}
+use Rattle.rules.proofs.Columns.{length-column, column-at, column-past, column-is}
 use Rattle.rules.proofs.Chains.{Waits, Chain, chain-on}
 
 module _ (priority awaits opened holder : List ℕ) where
@@ -49,6 +49,23 @@ module _ (priority awaits opened holder : List ℕ) where
       let chain = urgency-chain n (left - n) j i c in
       let own = urgency-own (left - n) j in
       rw all (omega arith)
+
+  -- ---- the column of all
+
+  pub length-urgencies : length (urgencies priority awaits opened holder) ≡ taskRoom
+  unfolding urgencies
+  length-urgencies = length-column taskRoom _
+
+  pub urgencies-at : (i : ℕ) → i < taskRoom → getD (urgencies priority awaits opened holder) i 0 ≡ taskUrgency priority awaits opened holder taskRoom i
+  unfolding urgencies
+  urgencies-at i l = column-at taskRoom _ i l
+
+  pub urgencies-past : (i : ℕ) → taskRoom ≤ i → getD (urgencies priority awaits opened holder) i 0 ≡ 0
+  unfolding urgencies
+  urgencies-past i l = column-past taskRoom _ i l
+
+  pub urgencies-own : (i : ℕ) → i < taskRoom → getD (urgencies priority awaits opened holder) i 0 ≤ getD priority i 0
+  urgencies-own i l = rw (urgencies-at i l) (urgency-own taskRoom i)
 
   -- ---- where nobody waits for a region
 
@@ -129,3 +146,24 @@ module _ (priority awaits opened holder : List ℕ) where
                   same = omega arith;
                 })
                 (smallest-had (awaiting awaits (q .0)) (taskUrgency priority awaits opened holder left) taskRoom)
+
+-- ---- the states, among them that of waiting for a region
+
+module _ (awaits states : List ℕ) where
+  pub length-states : length (statesWith awaits states) ≡ taskRoom
+  unfolding statesWith
+  length-states = length-column taskRoom _
+
+  pub states-at : (i : ℕ) → i < taskRoom → getD (statesWith awaits states) i 0 ≡ stateWith (getD awaits i 0) (getD states i 0)
+  unfolding statesWith
+  states-at i l = column-at taskRoom _ i l
+
+  pub states-past : (i : ℕ) → taskRoom ≤ i → getD (statesWith awaits states) i 0 ≡ 0
+  unfolding statesWith
+  states-past i l = column-past taskRoom _ i l
+
+  -- where nobody waits for a region they are as stored
+  pub states-quiet : nobodyAwaits awaits ≡ true → length states ≡ taskRoom → statesWith awaits states ≡ states
+  unfolding statesWith nobodyAwaits
+  states-quiet nobody e =
+      column-is taskRoom _ states e (λ i l. rw (below-at (λ j. isZero (getD awaits j 0)) taskRoom i nobody l))
