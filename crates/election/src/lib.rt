@@ -110,7 +110,7 @@ fn lowest_of<'a>(state: &'a [u8; TASKS], priority: &'a [u8; TASKS], p: u16) -> u
     lowest_bit(w) as u8
 }
 
-fn best_ready<'a>(state: &'a [u8; TASKS], priority: &'a [u8; TASKS]) -> u8
+pub fn best_ready<'a>(state: &'a [u8; TASKS], priority: &'a [u8; TASKS]) -> u8
     requires { ⌜ length (now state) ≡ taskRoom ⌝ }
     requires { ⌜ length (now priority) ≡ taskRoom ⌝ }
     ensures { λ r. ⌜ r ≡ bestReady (now (state .entry)) (now (priority .entry)) ⌝ }

@@ -5,9 +5,9 @@ use mathlib.Core.Logic.{⊎-elim}
 use mathlib.Core.Bool.{Bool, true, false}
 use mathlib.Core.List.{List}
 use native.Mathlib.Omega.{arith}
-use lib.Dec.{leb}
-use lib.ListN.{getD, length}
-use borrow.Author.Tests.{eqb-true, leb-true, leb-false}
+use lib.Dec.{leb, ltb}
+use lib.ListN.{getD, length, List·getD-eq-default}
+use borrow.Author.Tests.{eqb-true, leb-true, leb-false, ltb-true, ltb-false}
 use Rattle.rules.specs.Numbers.{taskRoom, regionRoom, priorityEnd}
 use Rattle.rules.specs.Words.{isZero, column}
 use Rattle.rules.specs.Election.{smallest}
@@ -17,6 +17,18 @@ use Rattle.rules.proofs.Election.{smallest-le, smallest-had}
 use Rattle.rules.proofs.Smallest.{smallest-none}
 use Rattle.rules.proofs.Columns.{length-column, column-at, column-past, column-is}
 use Rattle.rules.proofs.Chains.{Waits, Chain, chain-on}
+
+-- what each priority of a table is, and what a number past them is taken for
+pub small-everywhere : (priority : List ℕ) → length priority ≡ taskRoom → ((i : ℕ) → i < taskRoom → getD priority i 0 < priorityEnd)
+    → (i : ℕ) → getD priority i 0 ≤ priorityEnd
+small-everywhere priority e small i = go (ltb i taskRoom) refl
+  where
+    go : (b : Bool) → ltb i taskRoom ≡ b → getD priority i 0 ≤ priorityEnd
+    go true f = let s = small i (ltb-true i taskRoom f) in omega arith
+    go false f =
+        let past = ltb-false i taskRoom f in
+        let none = List·getD-eq-default priority 0 {n = i} (omega arith) in
+        omega arith
 
 module _ (priority awaits opened holder : List ℕ) where
   -- ---- at most

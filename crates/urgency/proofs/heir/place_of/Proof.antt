@@ -1,0 +1,13 @@
+-- By the test.
+use borrow.Author.Needs.{needs}
+use Rattle.urgency.proofs.heir.place_of.Statement.{statement}
+use Rattle.urgency.proofs.heir.place_of.Tie as tie
+
+returns : tie.Need-returns
+returns c = search needs
+
+returns-2 : tie.Need-returns-2
+returns-2 c = search needs
+
+pub place-of-spec : {M : Type 1} → statement M
+place-of-spec = tie.close (tie.spec returns returns-2)
