@@ -4,9 +4,9 @@
 #include <string.h>
 #include "expect.h"
 
-enum { REGIONS = 1, QUEUES = 2, ELECTED = 3, PRIORITY = 4, STATE = 68, ARRIVED = 132, LIST = 260, OPERATOR = 388, HOLDER = 452,
-       ENTRIES = 468, BOUND = 484, LENGTH = 492, ELEMENT = 500, CRITERION = 2548, TICKS = 3060, TIMER = 3064, UNUSED = 3, DATE = 4,
-       TIMER_WIDTH = 8 };
+enum { REGIONS = 1, QUEUES = 2, ELECTED = 3, PRIORITY = 4, STATE = 68, ARRIVED = 132, LIST = 260, OPERATOR = 388, AWAITS = 452,
+       HOLDER = 516, ENTRIES = 532, OPENED = 548, BOUND = 564, LENGTH = 572, ELEMENT = 580, CRITERION = 2628, TICKS = 3140, TIMER = 3144,
+       UNUSED = 3, DATE = 4, TIMER_WIDTH = 8 };
 
 static uint8_t expected[SIZE];
 
@@ -25,12 +25,15 @@ static void same_block(const char *where)
 
 static const uint8_t priorities[65] = {5, 0, 255, 7};
 static const uint8_t bounds[9] = {1, 64, 3, 4, 5, 6, 7, 8, 0};
+static const uint8_t marks[17] = {0, 1, 1, 0, 0, 0, 0, 0, 0, 0, 0, 0, 0, 0, 0, 1, 2};
 
 /* A configuration on a block of 0xEE, which is no table: "Make fresh looks only at the size". */
-static uint64_t configured(unsigned tasks, unsigned regions, unsigned queues, size_t priorities_length, size_t bounds_length)
+static uint64_t configured(unsigned tasks, unsigned regions, unsigned queues, size_t priorities_length, size_t bounds_length,
+                           size_t marks_length)
 {
     memset(block, 0xEE, SIZE);
-    return tankwesho_fresh(block, SIZE, (uint8_t)tasks, (uint8_t)regions, (uint8_t)queues, priorities, priorities_length, bounds, bounds_length);
+    return tankwesho_fresh(block, SIZE, (uint8_t)tasks, (uint8_t)regions, (uint8_t)queues, priorities, priorities_length, bounds,
+                           bounds_length, marks, marks_length);
 }
 
 /* "its 20 leaves the block all 0", "which is not valid": a call on it gets 10. */
@@ -45,30 +48,36 @@ static void refused_with_20(const char *where, uint64_t answer)
 static void fresh_blocks(void)
 {
     /* "Task 0 is ready and elected, the others stopped, no event arrived, regions free, queues empty"; "counter 0, all idle". */
-    same_answer(HERE, configured(4, 3, 2, 4, 2), 0, 0, 0, 0, NOBODY);
+    same_answer(HERE, configured(4, 3, 2, 4, 2, 3), 0, 0, 0, 0, NOBODY);
     memset(expected, 0, SIZE);
     memcpy(expected, "\4\3\2\0" "\5\0\377\7", 8);
     expected[STATE] = TANKWESHO_READY;
+    memcpy(expected + OPENED, "\0\1\1", 3);
     memcpy(expected + BOUND, "\1\100", 2);
     same_block(HERE);
-    /* "Entries past a count aren't read": longer lists, and a bound of 0 past the count, make the same block. */
-    same_answer(HERE, configured(4, 3, 2, 65, 9), 0, 0, 0, 0, NOBODY);
+    /* "Entries past a count aren't read": longer lists, and a bound of 0 or a mark of 2 past the count, make the same block. */
+    same_answer(HERE, configured(4, 3, 2, 65, 9, 17), 0, 0, 0, 0, NOBODY);
     same_block(HERE);
-    same_answer(HERE, tankwesho_fresh(block, SIZE, 1, 0, 0, priorities, 1, NULL, 0), 0, 0, 0, 0, NOBODY);
-    same_answer(HERE, configured(33, 16, 8, 33, 8), 0, 0, 0, 0, NOBODY);
-    same_answer(HERE, configured(64, 16, 8, 64, 8), 0, 0, 0, 0, NOBODY);
+    same_answer(HERE, tankwesho_fresh(block, SIZE, 1, 0, 0, priorities, 1, NULL, 0, NULL, 0), 0, 0, 0, 0, NOBODY);
+    same_answer(HERE, configured(33, 16, 8, 33, 8, 16), 0, 0, 0, 0, NOBODY);
+    same_answer(HERE, configured(64, 16, 8, 64, 8, 17), 0, 0, 0, 0, NOBODY);
     group_was_right("fresh");
 
     /* T-07: tasks 1 to 64. "Regions 0 to 16", "Queues 0 to 8", "a bound of 1 to 64"; "a list shorter than its count is out of range". */
-    refused_with_20(HERE, configured(0, 3, 2, 4, 2));
-    refused_with_20(HERE, configured(65, 3, 2, 65, 2));
-    refused_with_20(HERE, configured(4, 17, 2, 4, 2));
-    refused_with_20(HERE, configured(4, 3, 9, 4, 9));
-    refused_with_20(HERE, configured(4, 3, 2, 3, 2));
-    refused_with_20(HERE, configured(4, 3, 2, 4, 1));
-    refused_with_20(HERE, tankwesho_fresh(block, SIZE, 4, 3, 2, NULL, 0, bounds, 2));
-    refused_with_20(HERE, tankwesho_fresh(block, SIZE, 4, 3, 2, priorities, 4, (const uint8_t *)"\1\0", 2));
-    refused_with_20(HERE, tankwesho_fresh(block, SIZE, 4, 3, 2, priorities, 4, (const uint8_t *)"\1\101", 2));
+    refused_with_20(HERE, configured(0, 3, 2, 4, 2, 3));
+    refused_with_20(HERE, configured(65, 3, 2, 65, 2, 3));
+    refused_with_20(HERE, configured(4, 17, 2, 4, 2, 17));
+    refused_with_20(HERE, configured(4, 3, 9, 4, 9, 3));
+    refused_with_20(HERE, configured(4, 3, 2, 3, 2, 3));
+    refused_with_20(HERE, configured(4, 3, 2, 4, 1, 3));
+    refused_with_20(HERE, configured(4, 3, 2, 4, 2, 2));
+    refused_with_20(HERE, tankwesho_fresh(block, SIZE, 4, 3, 2, NULL, 0, bounds, 2, marks, 3));
+    refused_with_20(HERE, tankwesho_fresh(block, SIZE, 4, 3, 2, priorities, 4, bounds, 2, NULL, 0));
+    refused_with_20(HERE, tankwesho_fresh(block, SIZE, 4, 3, 2, priorities, 4, (const uint8_t *)"\1\0", 2, marks, 3));
+    refused_with_20(HERE, tankwesho_fresh(block, SIZE, 4, 3, 2, priorities, 4, (const uint8_t *)"\1\101", 2, marks, 3));
+    /* T-09: "00 closed or 01 open, else 20". */
+    refused_with_20(HERE, tankwesho_fresh(block, SIZE, 4, 3, 2, priorities, 4, bounds, 2, (const uint8_t *)"\0\1\2", 3));
+    refused_with_20(HERE, tankwesho_fresh(block, SIZE, 4, 3, 2, priorities, 4, bounds, 2, (const uint8_t *)"\377\1\0", 3));
     group_was_right("fresh refused");
 }
 
@@ -80,7 +89,8 @@ static void busy_block(void)
 {
     static const uint8_t priority[] = {5, 5, 2, 7};
     static const uint8_t bound[] = {3, 2};
-    same_answer(HERE, tankwesho_fresh(block, SIZE, 4, 3, 2, priority, 4, bound, 2), 0, 0, 0, 0, NOBODY);
+    static const uint8_t closed[] = {0, 0, 0};
+    same_answer(HERE, tankwesho_fresh(block, SIZE, 4, 3, 2, priority, 4, bound, 2, closed, 3), 0, 0, 0, 0, NOBODY);
     PUSHES(0, START, 2, 0, 0, 2, 0);
     CALL(OUTSIDE, TICK, 0, 0, 0, 0, 2);
     CALL(2, START, 1, 0, 0, 0, 2);
@@ -150,6 +160,7 @@ static const struct allowed in_busy[] = {
     {ARRIVED, ARRIVED + 5, 0, 255},                       /* events of tasks that aren't stopped; task 1's condition is met by no one byte */
     {LIST + 2, LIST + 3, 0, 255},                         /* task 1 waits for others, and not all of them have arrived */
     {ENTRIES, ENTRIES, 1, 255}, {ENTRIES + 2, ENTRIES + 2, 1, 255}, /* "1 to 255" where there is a holder; no holder changes alone */
+    {OPENED, OPENED + 2, 0, 1},                           /* one of them open: another one that is held stays closed */
     {BOUND, BOUND, 2, 64}, {BOUND + 1, BOUND + 1, 1, 64}, /* no less than the length */
     {LENGTH, LENGTH, 2, 3}, {LENGTH + 1, LENGTH + 1, 0, 2}, /* elements 0 of criterion 0, up to the bound */
     {ELEMENT, ELEMENT + 7, 0, 255},                       /* any elements of the two there are */
@@ -169,9 +180,50 @@ static const struct allowed in_free[] = {
     {PRIORITY + 2, PRIORITY + 2, 0, 4},   /* with 5 task 0 would be elected */
     {STATE, STATE + 1, 0, 1},             /* another task stopped */
     {ARRIVED, ARRIVED + 5, 0, 255},
+    {OPENED, OPENED + 1, 0, 1},           /* nobody holds them or waits for them */
     {BOUND, BOUND, 1, 64},
     {LENGTH, LENGTH, 0, 2},
     {TICKS, TICKS + 3, 0, 255},           /* no timer is armed */
+};
+
+/* Tasks 0 and 1 hold the open regions 0 and 1; task 1 waits for region 0, task 2 for region 1; task 3 is ready. Region 2 is open, region 3
+   closed, and nobody holds them. Priorities 7, 5, 2, 3: task 0 is elected, as urgent as task 2. */
+static void lined_block(void)
+{
+    static const uint8_t priority[] = {7, 5, 2, 3};
+    static const uint8_t mark[] = {1, 1, 1, 0};
+    fresh_regions(HERE, priority, 4, mark, 4);
+    CALL(0, ENTER, 0, 0, 0, 0, 0);
+    PUSHES(0, START, 1, 0, 0, 1, 0);
+    CALL(1, ENTER, 1, 0, 0, 0, 1);
+    CALL(1, ENTER, 0, 0, 0, 1, 0);
+    PUSHES(0, START, 2, 0, 0, 2, 0);
+    CALL(2, ENTER, 1, 0, 0, 1, 0);
+    CALL(0, START, 3, 0, 0, 0, 0);
+    memset(expected, 0, SIZE);
+    memcpy(expected, "\4\4\0\0" "\7\5\2\3", 8);
+    memcpy(expected + STATE, "\1\1\1\1", 4);
+    memcpy(expected + AWAITS, "\0\1\2\0", 4);
+    memcpy(expected + HOLDER, "\1\2\0\0", 4);
+    memcpy(expected + ENTRIES, "\1\1\0\0", 4);
+    memcpy(expected + OPENED, "\1\1\1\0", 4);
+    same_block(HERE);
+}
+
+static const struct allowed in_lined[] = {
+    {0, 0, 4, 64},
+    {REGIONS, REGIONS, 3, 16},            /* region 3 is closed and free, so all 0 */
+    {PRIORITY, PRIORITY + 1, 0, 255},     /* task 2 lends its 2 in any case */
+    {PRIORITY + 2, PRIORITY + 2, 0, 3},   /* with 3 task 0 is as urgent as task 3, and of the lower number; with 4 task 3 would be elected */
+    {PRIORITY + 3, PRIORITY + 3, 2, 255}, /* likewise */
+    {STATE + 3, STATE + 3, 0, 1},
+    {ARRIVED, ARRIVED + 7, 0, 255},       /* "a signal to such a task is only recorded" */
+    {AWAITS + 2, AWAITS + 2, 1, 2},       /* task 2 waits for region 0 as well as for region 1; with 0 it would be elected */
+    {AWAITS + 3, AWAITS + 3, 0, 2},       /* task 3 in a line; tasks 0 and 1 in another one would close a circle or be elected */
+    {HOLDER + 1, HOLDER + 1, 1, 2},       /* task 0 holds both: it stays as urgent */
+    {ENTRIES, ENTRIES + 1, 1, 255},
+    {OPENED + 2, OPENED + 3, 0, 1},       /* "a state 3 task waits for one occupied open region": not those that are waited for */
+    {TICKS, TICKS + 3, 0, 255},
 };
 
 static int is_allowed(const struct allowed *rows, int count, int place, unsigned value)
@@ -202,16 +254,16 @@ static void each_byte_changed(const struct allowed *rows, int count)
     }
 }
 
-/* A region's holder and count set to every pair: "a region counts its entries, 1 to 255", "A free region has count 0", and of holders the
-   elected task alone will do. Past the number of regions both are 0. */
-static void each_pair_of_region(int region)
+/* A region's holder and count set to every pair: "a region counts its entries, 1 to 255", "A free region has count 0". The holders, as they
+   are stored, that will do are `least` to `most`, none where that is past them. */
+static void each_pair_of_region(int region, int may_be_free, unsigned least, unsigned most)
 {
     unsigned elected = block[ELECTED];
     uint8_t kept_holder = block[HOLDER + region], kept_count = block[ENTRIES + region];
     for (unsigned holder = 0; holder < 256; holder++)
         for (unsigned count = 0; count < 256; count++) {
-            int held = region < block[REGIONS] && holder == elected + 1 && count > 0;
-            int valid = held || (holder == 0 && count == 0);
+            int held = least <= holder && holder <= most && count > 0;
+            int valid = held || (may_be_free && holder == 0 && count == 0);
             char where[80];
             snprintf(where, sizeof where, "%s, region %d with holder %u and count %u", HERE, region, holder, count);
             block[HOLDER + region] = (uint8_t)holder;
@@ -264,16 +316,28 @@ static void packed_and_damaged(void)
     group_was_right("a busy block, byte by byte");
     each_byte_changed(in_busy, sizeof in_busy / sizeof *in_busy);
     group_was_right("every byte of it changed");
+    /* Closed regions: the elected task alone will do. Past the number of regions both are 0. */
     for (int region = 0; region < 4; region++)
-        each_pair_of_region(region);
+        each_pair_of_region(region, 1, 1, region < 3 ? 1 : 0);
     group_was_right("every holder and count of its three regions, and of one more");
+    lined_block();
+    each_byte_changed(in_lined, sizeof in_lined / sizeof *in_lined);
+    group_was_right("every byte of a block with two lines changed");
+    /* Region 0 stays task 0's, since any other holder would wait for itself or be elected; region 1 may be task 0's; region 2, which is open and
+       which nobody waits for, anybody's that isn't stopped; region 3, which is closed, the elected task's. */
+    each_pair_of_region(0, 0, 1, 1);
+    each_pair_of_region(1, 0, 1, 2);
+    each_pair_of_region(2, 1, 1, 4);
+    each_pair_of_region(3, 1, 1, 1);
+    each_pair_of_region(4, 1, 1, 0);
+    group_was_right("every holder and count of its regions");
     fresh_example();
     CALL(0, START, 1, 0, 0, 0, 0);
     PUSHES(0, START, 2, 0, 0, 2, 0);
     each_byte_changed(in_free, sizeof in_free / sizeof *in_free);
     group_was_right("every byte of a block without held regions changed");
     for (int region = 0; region < 16; region++)
-        each_pair_of_region(region);
+        each_pair_of_region(region, 1, 3, region < 2 ? 3 : 0);
     group_was_right("every holder and count of its two regions, and past them");
 
     /* "A block … not a valid table gets 10 and isn't touched", whatever is called, and before 11, 12, 13 and 14. */
@@ -303,26 +367,27 @@ static void counter_starts_again(void)
 }
 
 /* "A block of wrong size … gets 10 and isn't touched": whatever stands in it, and whatever is asked. So do the sizes before T-04, when
-   regions had no counts, and before T-07, when there were at most 32 tasks. */
+   regions had no counts, before T-07, when there were at most 32 tasks, and before T-09, when no region could be waited for. */
 static void other_sizes(void)
 {
-    enum { BEFORE_T_04 = 2952, BEFORE_T_07 = 2968 };
+    enum { BEFORE_T_04 = 2952, BEFORE_T_07 = 2968, BEFORE_T_09 = 3192 };
     static uint8_t room[2 * SIZE], before[2 * SIZE];
-    static const size_t sizes[] = {0, 1, 3, 4, SIZE / 2, BEFORE_T_04, BEFORE_T_07, SIZE - 8, SIZE - 1, SIZE + 1, SIZE + 8, SIZE + 16, 2 * SIZE};
+    static const size_t sizes[] = {0, 1, 3, 4, SIZE / 2, BEFORE_T_04, BEFORE_T_07, BEFORE_T_09, SIZE - 8, SIZE - 1, SIZE + 1, SIZE + 8, SIZE + 16,
+                                   2 * SIZE};
     fresh_example();
     memcpy(room, block, SIZE);
     memcpy(before, room, sizeof room);
     for (size_t i = 0; i < sizeof sizes / sizeof *sizes; i++) {
-        same_answer(HERE, tankwesho_fresh(room, sizes[i], 4, 3, 2, priorities, 4, bounds, 2), 10, NOBODY, 0, 0, NOBODY);
-        same_answer(HERE, tankwesho_fresh(room, sizes[i], 0, 99, 99, priorities, 0, bounds, 0), 10, NOBODY, 0, 0, NOBODY);
+        same_answer(HERE, tankwesho_fresh(room, sizes[i], 4, 3, 2, priorities, 4, bounds, 2, marks, 3), 10, NOBODY, 0, 0, NOBODY);
+        same_answer(HERE, tankwesho_fresh(room, sizes[i], 0, 99, 99, priorities, 0, bounds, 0, marks, 0), 10, NOBODY, 0, 0, NOBODY);
         for (unsigned operation = 0; operation < 256; operation++)
             same_answer(HERE, tankwesho_call(room, sizes[i], 0, (uint8_t)operation, 1, 0, 1), 10, NOBODY, 0, 0, NOBODY);
         for (unsigned query = 0; query < 256; query++)
             same_answer(HERE, tankwesho_query(room, sizes[i], (uint8_t)query, 0, 1, 0), 10, NOBODY, 0, 0, NOBODY);
         same_bytes(HERE, before, room, sizeof room);
     }
-    same_answer(HERE, tankwesho_fresh(NULL, 0, 4, 3, 2, priorities, 4, bounds, 2), 10, NOBODY, 0, 0, NOBODY);
-    same_answer(HERE, tankwesho_fresh(NULL, 0, 0, 0, 0, NULL, 0, NULL, 0), 10, NOBODY, 0, 0, NOBODY);
+    same_answer(HERE, tankwesho_fresh(NULL, 0, 4, 3, 2, priorities, 4, bounds, 2, marks, 3), 10, NOBODY, 0, 0, NOBODY);
+    same_answer(HERE, tankwesho_fresh(NULL, 0, 0, 0, 0, NULL, 0, NULL, 0, NULL, 0), 10, NOBODY, 0, 0, NOBODY);
     same_answer(HERE, tankwesho_call(NULL, 0, 0, TANKWESHO_CLEAR, 1, 0, 0), 10, NOBODY, 0, 0, NOBODY);
     same_answer(HERE, tankwesho_query(NULL, 0, TANKWESHO_STATE, 0, 0, 0), 10, NOBODY, 0, 0, NOBODY);
     group_was_right("blocks of other sizes");

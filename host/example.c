@@ -14,7 +14,8 @@ int main(void)
 {
     static const uint8_t priorities[] = {5, 5, 2};
     static const uint8_t bounds[] = {2};
-    print(tankwesho_fresh(block, sizeof block, 3, 2, 1, priorities, sizeof priorities, bounds, sizeof bounds));
+    static const uint8_t marks[] = {TANKWESHO_CLOSED, TANKWESHO_CLOSED};
+    print(tankwesho_fresh(block, sizeof block, 3, 2, 1, priorities, sizeof priorities, bounds, sizeof bounds, marks, sizeof marks));
     print(tankwesho_call(block, sizeof block, 0, TANKWESHO_START, 2, 0, 0));
     print(tankwesho_call(block, sizeof block, TANKWESHO_OUTSIDE, TANKWESHO_SIGNAL, 0, 1, 0));
     return 0;

@@ -63,5 +63,12 @@ void fresh_example(void)
 {
     static const uint8_t priorities[] = {5, 5, 2};
     static const uint8_t bounds[] = {2};
-    same_answer(HERE, tankwesho_fresh(block, SIZE, 3, 2, 1, priorities, 3, bounds, 1), TANKWESHO_DONE, 0, 0, 0, NOBODY);
+    static const uint8_t marks[] = {TANKWESHO_CLOSED, TANKWESHO_CLOSED};
+    same_answer(HERE, tankwesho_fresh(block, SIZE, 3, 2, 1, priorities, 3, bounds, 1, marks, 2), TANKWESHO_DONE, 0, 0, 0, NOBODY);
+}
+
+void fresh_regions(const char *where, const uint8_t *priorities, unsigned tasks, const uint8_t *marks, unsigned regions)
+{
+    uint64_t answer = tankwesho_fresh(block, SIZE, (uint8_t)tasks, (uint8_t)regions, 0, priorities, tasks, NULL, 0, marks, regions);
+    same_answer(where, answer, TANKWESHO_DONE, 0, 0, 0, NOBODY);
 }

@@ -33,6 +33,9 @@ void query_at(const char *where, unsigned query, unsigned caller, uint32_t a, ui
 /* Document 01's bench examples: "Each starts fresh: priorities 5, 5, 2, two regions, one queue of bound 2." */
 void fresh_example(void);
 
+/* A fresh table without queues, of these priorities and marks. */
+void fresh_regions(const char *where, const uint8_t *priorities, unsigned tasks, const uint8_t *marks, unsigned regions);
+
 /* A call that gives no element and displaces nobody, an accepted one that displaces a task, a RETRIEVE that gives an element, and a query; an
    operation or query goes by its name without TANKWESHO_. */
 #define CALL(caller, operation, a, b, c, status, elected) \
@@ -45,6 +48,9 @@ void fresh_example(void);
 
 /* host/entries.c: T-04, the entries of a region. */
 void try_entries(void);
+
+/* host/lines.c: T-09, regions that can be waited for. */
+void try_lines(void);
 
 /* host/blocks.c: blocks made fresh, packed, damaged, and of other sizes. */
 void try_blocks(void);

@@ -1,9 +1,9 @@
 /* Plays a table's firmware over include/tankwesho.h: lends a block, makes it fresh, and calls and queries it. Each expectation is worked
-   out from document 01, T-01, T-04 or T-08 and stands under its sentence. Ends with 1 at the first wrong answer or byte. */
+   out from document 01, T-01, T-04, T-08 or T-09 and stands under its sentence. Ends with 1 at the first wrong answer or byte. */
 #include <stdio.h>
 #include "expect.h"
 
-/* The header's names against the numbers of document 01, T-01 and T-04. */
+/* The header's names against the numbers of document 01, T-01, T-04, T-06 and T-09. */
 static void names(void)
 {
     static const uint8_t operations[] = {TANKWESHO_START, TANKWESHO_STOP, TANKWESHO_END, TANKWESHO_SIGNAL, TANKWESHO_WAIT, TANKWESHO_CLEAR,
@@ -13,10 +13,15 @@ static void names(void)
     static const uint8_t statuses[] = {TANKWESHO_DONE, TANKWESHO_WAITS, TANKWESHO_NOT_A_TABLE, TANKWESHO_NO_OPERATION, TANKWESHO_NOT_ELECTED,
                                        TANKWESHO_BARRED, TANKWESHO_MISSING, TANKWESHO_WRONG_STATE, TANKWESHO_IN_REGION,
                                        TANKWESHO_QUEUE_AT_BOUND, TANKWESHO_NONE_FITS, TANKWESHO_BAD_OPERATOR, TANKWESHO_BAD_CONFIGURATION,
-                                       TANKWESHO_MALFORMED_LINE, TANKWESHO_ENTERED_TOO_OFTEN, TANKWESHO_NOT_HELD};
+                                       TANKWESHO_MALFORMED_LINE, TANKWESHO_ENTERED_TOO_OFTEN, TANKWESHO_NOT_HELD, TANKWESHO_CLOSES_CIRCLE,
+                                       TANKWESHO_HOLDS_OPEN};
+    static const uint8_t states[] = {TANKWESHO_STOPPED, TANKWESHO_READY, TANKWESHO_WAITING, TANKWESHO_SUSPENDED};
+    static const uint8_t marks[] = {TANKWESHO_CLOSED, TANKWESHO_OPEN};
     same_bytes(HERE, (const uint8_t[]){0, 1, 2, 3, 4, 5, 6, 7, 8, 9, 10, 11, 12}, operations, sizeof operations);
     same_bytes(HERE, (const uint8_t[]){0, 1, 2, 3, 4}, queries, sizeof queries);
-    same_bytes(HERE, (const uint8_t[]){0, 1, 10, 11, 12, 13, 14, 15, 16, 17, 18, 19, 20, 21, 22, 23}, statuses, sizeof statuses);
+    same_bytes(HERE, (const uint8_t[]){0, 1, 10, 11, 12, 13, 14, 15, 16, 17, 18, 19, 20, 21, 22, 23, 24, 25}, statuses, sizeof statuses);
+    same_bytes(HERE, (const uint8_t[]){0, 1, 2, 3}, states, sizeof states);
+    same_bytes(HERE, (const uint8_t[]){0, 1}, marks, sizeof marks);
     group_was_right("the header's names");
 }
 
@@ -364,6 +369,7 @@ int main(void)
     tasks_and_events();
     regions_and_queues();
     try_entries();
+    try_lines();
     timers();
     pushed_aside();
     queries();

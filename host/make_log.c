@@ -64,15 +64,17 @@ static void line(const char *text)
     sscanf(answer + 12, "%2X", &elected);
 }
 
-/* 32 tasks of 16 priorities, 16 regions, 8 queues. */
+/* 32 tasks of 16 priorities, 16 closed regions, 8 queues. */
 static void first_line(void)
 {
-    char text[2 * (3 + TASKS + QUEUES) + 2];
+    char text[2 * (3 + TASKS + QUEUES + REGIONS) + 2];
     int n = sprintf(text, "%02X%02X%02X", TASKS, REGIONS, QUEUES);
     for (int i = 0; i < TASKS; i++)
         n += sprintf(text + n, "%02X", (unsigned)drawn(16));
     for (int i = 0; i < QUEUES; i++)
         n += sprintf(text + n, "%02X", BOUND);
+    for (int i = 0; i < REGIONS; i++)
+        n += sprintf(text + n, "00");
     sprintf(text + n, "\n");
     line(text);
 }

@@ -12,7 +12,7 @@ extern "C" {
 #endif
 
 /* The size of a block, in bytes. A layout that changes gets another size, so that a block of an older one is refused and never misread. */
-#define TANKWESHO_BLOCK_SIZE 3192
+#define TANKWESHO_BLOCK_SIZE 3272
 
 /* The caller that is no task. It may SIGNAL and TICK. */
 #define TANKWESHO_OUTSIDE 255
@@ -27,8 +27,8 @@ enum tankwesho_operation {
     TANKWESHO_SIGNAL = 3,   /* a event, b task */
     TANKWESHO_WAIT = 4,     /* a event list, b operator */
     TANKWESHO_CLEAR = 5,    /* a event list */
-    TANKWESHO_ENTER = 6,    /* a region: its count goes one up, to 255 at most */
-    TANKWESHO_EXIT = 7,     /* a region: one down; at 0 it is free */
+    TANKWESHO_ENTER = 6,    /* a region: its count goes one up, to 255 at most; or the caller waits for an open one of another's */
+    TANKWESHO_EXIT = 7,     /* a region: one down; at 0 it is free, or handed on to the most urgent task that waits for it */
     TANKWESHO_SEND = 8,     /* a queue, b element, c criterion */
     TANKWESHO_RETRIEVE = 9, /* a queue, c criterion or TANKWESHO_LARGEST */
     TANKWESHO_ARM = 10,     /* a timer, b event, c delay */
@@ -41,37 +41,48 @@ enum tankwesho_query_number {
     TANKWESHO_EMPTY = 1,    /* a queue: 1 if it holds nothing, else 0 */
     TANKWESHO_FULL = 2,     /* a queue: 1 if it is at its bound, else 0 */
     TANKWESHO_PRIORITY = 3, /* a task: its priority */
-    TANKWESHO_STATE = 4     /* a task: one of the three states */
+    TANKWESHO_STATE = 4     /* a task: one of the four states */
 };
 
 /* The operators of a list of events. */
 enum tankwesho_operator { TANKWESHO_ALL = 0, TANKWESHO_ANY = 1 };
 
 /* What the query STATE answers. */
-enum tankwesho_state { TANKWESHO_STOPPED = 0, TANKWESHO_READY = 1, TANKWESHO_WAITING = 2 };
+enum tankwesho_state {
+    TANKWESHO_STOPPED = 0,
+    TANKWESHO_READY = 1,
+    TANKWESHO_WAITING = 2,  /* for events */
+    TANKWESHO_SUSPENDED = 3 /* waiting for a region; in a block such a task is stored as ready, with the region it waits for */
+};
+
+/* The mark of a region. Who holds a closed one is elected. An open one can be waited for, and doesn't stop preemption. */
+enum tankwesho_mark { TANKWESHO_CLOSED = 0, TANKWESHO_OPEN = 1 };
 
 /* RETRIEVE's c for the oldest element of the largest criterion present. */
 #define TANKWESHO_LARGEST 16
 
 /* 0 and 1 are accepted. From 10 on a call is refused, and has changed nothing. Where several apply, the first in this order is given: 10,
-   11, 13, 12, 13 for a TICK by the elected task, 14, 19, 15, 16, 17, 18, 22, 23. */
+   11, 13, 12, 13 for a TICK by the elected task, 14, 19, 15, 16, 17, 18, 22, 23, 24, 25. */
 enum tankwesho_status {
     TANKWESHO_DONE = 0,
-    TANKWESHO_WAITS = 1,              /* a WAIT after which its caller waits */
+    TANKWESHO_WAITS = 1,              /* a WAIT or an ENTER after which its caller waits */
     TANKWESHO_NOT_A_TABLE = 10,       /* wrong size, or not a valid table */
     TANKWESHO_NO_OPERATION = 11,      /* operation above 12, query above 4 */
     TANKWESHO_NOT_ELECTED = 12,       /* the caller is a task, and not the elected one */
     TANKWESHO_BARRED = 13,            /* from the outside and neither SIGNAL nor TICK; TICK by the elected task */
     TANKWESHO_MISSING = 14,           /* a task, event, region, queue, criterion, timer, event list or delay that doesn't exist */
     TANKWESHO_WRONG_STATE = 15,       /* START of a task not stopped, STOP or SIGNAL of a stopped one, another task's timer */
-    TANKWESHO_IN_REGION = 16,         /* WAIT, END or STOP of oneself while a region is occupied */
+    TANKWESHO_IN_REGION = 16,         /* WAIT, END, STOP of oneself, or an ENTER that would wait, while a closed region is occupied; WAIT by
+                                         a task that holds an open one */
     TANKWESHO_QUEUE_AT_BOUND = 17,    /* SEND */
     TANKWESHO_NONE_FITS = 18,         /* RETRIEVE */
     TANKWESHO_BAD_OPERATOR = 19,      /* above 1 */
     TANKWESHO_BAD_CONFIGURATION = 20, /* tankwesho_fresh */
     TANKWESHO_MALFORMED_LINE = 21,    /* the bench's alone: no function here gives it */
     TANKWESHO_ENTERED_TOO_OFTEN = 22, /* ENTER of a region that has been entered 255 times and not left */
-    TANKWESHO_NOT_HELD = 23           /* EXIT of a region that the caller doesn't hold */
+    TANKWESHO_NOT_HELD = 23,          /* EXIT of a region that the caller doesn't hold */
+    TANKWESHO_CLOSES_CIRCLE = 24,     /* ENTER of a region whose holder waits for the caller, itself or through others */
+    TANKWESHO_HOLDS_OPEN = 25         /* STOP or END of a task that holds an open region */
 };
 
 /* What holds for all three functions.
@@ -85,13 +96,15 @@ enum tankwesho_status {
 
 /* Makes the table of a configuration in the block: task 0 is ready and elected, the others are stopped. It looks only at the block's size,
    never at what stands in it.
-   priorities has an entry for each task, bounds one for each queue. Entries past the count aren't read. The three arrays don't overlap.
+   priorities has an entry for each task, bounds one for each queue, marks one of enum tankwesho_mark for each region. Entries past the count
+   aren't read. The block doesn't overlap any of them.
    DONE: elected is task 0.
-   BAD_CONFIGURATION: a count is out of range (1 to 64 tasks, 0 to 16 regions, 0 to 8 queues), a list is shorter than its count, or a bound
-   isn't 1 to 64. The block is all 0, which is not a table.
+   BAD_CONFIGURATION: a count is out of range (1 to 64 tasks, 0 to 16 regions, 0 to 8 queues), a list is shorter than its count, a bound
+   isn't 1 to 64, or a mark isn't 0 or 1. The block is all 0, which is not a table.
    NOT_A_TABLE: block_length isn't TANKWESHO_BLOCK_SIZE; tested first. Nothing is written. A null block of length 0 gets it too. */
 uint64_t tankwesho_fresh(uint8_t *block, size_t block_length, uint8_t tasks, uint8_t regions, uint8_t queues, const uint8_t *priorities,
-                         size_t priorities_length, const uint8_t *bounds, size_t bounds_length);
+                         size_t priorities_length, const uint8_t *bounds, size_t bounds_length, const uint8_t *marks,
+                         size_t marks_length);
 
 /* One call, by a task or by TANKWESHO_OUTSIDE. Of a, b and c those that the operation doesn't list aren't read.
    An accepted call leaves a table in the block. A refused one leaves every byte of it as it was.

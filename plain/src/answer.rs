@@ -23,6 +23,8 @@ pub enum Status {
     Malformed = 21,
     TooManyEntries = 22,
     NotHeld = 23,
+    ClosesCircle = 24,
+    HoldsOpen = 25,
 }
 
 /// One call: who, what, and three numbers, of which the operation reads those it needs.

@@ -4,7 +4,7 @@ use crate::answer::{Answer, Call, OUTSIDE};
 use crate::calls::Operation;
 use crate::configuration::Configuration;
 use crate::random::Random;
-use crate::table::{State, Table, TIMERS};
+use crate::table::{Region, State, Table, TIMERS};
 
 /// Numbers at each bound of the rules, one less and one more, and the largest.
 pub const EDGES: [u32; 30] = [
@@ -48,6 +48,8 @@ pub struct Manner {
     pub longest_delay: u32,
     /// The caller's STOP and END are drawn only while more tasks than this are not stopped.
     pub kept_alive: usize,
+    /// Tasks are led into the lines of open regions until so many wait in them.
+    pub in_lines: usize,
 }
 
 /// One region entered until it refuses, and left as often: what else would reach 255 entries?
@@ -58,12 +60,22 @@ enum Nest {
     Up(u32),
 }
 
+/// What becomes of the lines of open regions. Whoever is held up lends its urgency, so that from then on only a more urgent task comes to
+/// call: a line grows from its least urgent task on, and once it can't grow any more it is dissolved.
+#[derive(Clone, Copy, PartialEq, Eq)]
+enum Lines {
+    Grow,
+    Stand,
+    Dissolve,
+}
+
 pub struct Author {
     pub random: Random,
     table: Table,
     manner: Manner,
     filling: u32,
     nest: Nest,
+    lines: Lines,
 }
 
 impl Author {
@@ -75,6 +87,7 @@ impl Author {
             manner,
             filling: u32::MAX,
             nest: Nest::None,
+            lines: Lines::Grow,
         }
     }
 
@@ -164,18 +177,21 @@ impl Author {
         if let Some(call) = self.nested(me) {
             return call;
         }
-        let inside = self.table.holder().is_some();
+        if let Some(call) = self.in_line(me) {
+            return call;
+        }
+        let inside = self.table.holder().is_some() || self.table.holds_open(me);
         match self.random.below(100) {
             0..=6 => self.start(me),
             7..=9 => self.stop(me),
-            10..=11 if inside && !self.random.one_in(4) => self.exit(me),
+            10..=11 if inside && !self.random.one_in(4) => self.leave(me),
             10..=11 if self.alive() > self.manner.kept_alive => call(me, Operation::End, 0, 0, 0),
             12..=24 => self.signal(me),
-            25..=39 if inside && !self.random.one_in(4) => self.exit(me),
+            25..=39 if inside && !self.random.one_in(4) => self.leave(me),
             25..=39 => self.wait(me),
             40..=48 => self.clear(me),
             49..=57 => call(me, Operation::Enter, self.region(), 0, 0),
-            58..=64 => self.exit(me),
+            58..=64 => self.leave(me),
             65..=89 => self.queue_call(me),
             90..=96 => self.arm(me),
             97..=99 => call(me, Operation::Disarm, self.timer(me), 0, 0),
@@ -192,6 +208,8 @@ impl Author {
         }
         match self.nest {
             Nest::None => None,
+            // The holder of an open region has been pushed aside, and goes on later.
+            Nest::Down(region) | Nest::Up(region) if self.is_anothers(region, me) => None,
             Nest::Down(region) => {
                 if self.entries(region) == 255 && self.random.one_in(3) {
                     self.nest = Nest::Up(region);
@@ -209,6 +227,137 @@ impl Author {
 
     fn entries(&self, region: u32) -> u8 {
         self.table.regions[region as usize].entries
+    }
+
+    fn is_anothers(&self, region: u32, me: u8) -> bool {
+        self.table.regions[region as usize].holder.is_some_and(|holder| holder != me)
+    }
+
+    /// Where there are open regions, a call that makes lines longer or dissolves them, one time in two.
+    fn in_line(&mut self, me: u8) -> Option<Call> {
+        if !self.has_open() {
+            return None;
+        }
+        self.lines = self.lines_now(me);
+        if self.random.one_in(8) {
+            None
+        } else if self.lines == Lines::Stand {
+            self.back_in_line(me)
+        } else if self.table.holder().is_some() && !self.random.one_in(16) {
+            Some(self.exit(me))
+        } else if self.lines == Lines::Grow {
+            Some(self.grown(me))
+        } else {
+            Some(self.given_way(me))
+        }
+    }
+
+    fn lines_now(&mut self, me: u8) -> Lines {
+        let (waiting, wanted) = (self.in_lines(), self.manner.in_lines);
+        let enough = wanted.min(usize::from(self.table.task_count) * 3 / 4);
+        match self.lines {
+            Lines::Grow if waiting >= wanted => Lines::Stand,
+            Lines::Stand if waiting < wanted / 2 => Lines::Grow,
+            Lines::Dissolve if waiting == 0 && (self.more_urgent(me).count() >= enough || self.random.one_in(64)) => Lines::Grow,
+            as_before => as_before,
+        }
+    }
+
+    /// Whoever has been handed a region waits for the next one.
+    fn back_in_line(&mut self, me: u8) -> Option<Call> {
+        let wanted = self.in_lines() < self.manner.in_lines && self.table.holder().is_none();
+        let region = wanted.then(|| self.anothers(me))?;
+        region.map(|region| call(me, Operation::Enter, region, 0, 0))
+    }
+
+    /// An open region that another task holds; mostly one for which the caller can wait, else one that would close a circle.
+    fn anothers(&mut self, me: u8) -> Option<u32> {
+        let circle = self.random.one_in(self.manner.slip);
+        self.open_region(|table, region| region.holder.is_some_and(|holder| holder != me) && circle == waits_for(table, region, me))
+    }
+
+    /// The caller waits for another's region, takes one of its own, or wakes who may come to wait.
+    fn grown(&mut self, me: u8) -> Call {
+        let holds = self.held_by(me);
+        let anothers = self.anothers(me);
+        let free = self.open_region(|_, region| region.holder.is_none());
+        let next = self
+            .more_urgent(me)
+            .max_by_key(|&number| (self.table.tasks[usize::from(number)].priority, number));
+        // A task that holds one and waits for another is a link; one that waits for nobody takes several, if somebody could come to wait.
+        let region = match (anothers, free) {
+            (Some(_), Some(free)) if holds == 0 && !self.random.one_in(3) => Some(free),
+            (None, Some(free)) if holds < 3 && next.is_some() => Some(free),
+            _ => anothers,
+        };
+        match (region, next) {
+            (Some(region), _) => call(me, Operation::Enter, region, 0, 0),
+            (None, Some(next)) => self.woken(me, next),
+            (None, None) => {
+                self.lines = Lines::Dissolve;
+                self.given_way(me)
+            }
+        }
+    }
+
+    /// The tasks that are stopped or wait for events, and would be elected in the caller's place.
+    fn more_urgent(&self, me: u8) -> impl Iterator<Item = u8> + '_ {
+        let urgency = self.table.urgencies()[usize::from(me)];
+        let tasks = &self.table.tasks[..self.table.task_count.into()];
+        let asleep = (0..).zip(tasks).filter(|(_, task)| task.state != State::READY);
+        asleep
+            .filter(move |(number, task)| (task.priority, *number) < (urgency, me))
+            .map(|(number, _)| number)
+    }
+
+    /// A task started, or signalled an event that it waits for.
+    fn woken(&self, me: u8, number: u8) -> Call {
+        let task = &self.table.tasks[usize::from(number)];
+        if task.state == State::STOPPED {
+            return call(me, Operation::Start, number.into(), 0, 0);
+        }
+        let missing = task.list & !task.arrived;
+        call(me, Operation::Signal, missing.trailing_zeros(), number.into(), 0)
+    }
+
+    fn has_open(&self) -> bool {
+        self.table.regions.iter().any(Region::is_open)
+    }
+
+    /// Whether nobody is to be woken out of turn.
+    fn in_order(&self) -> bool {
+        self.has_open() && self.lines != Lines::Stand
+    }
+
+    fn in_lines(&self) -> usize {
+        self.table.tasks.iter().filter(|task| task.told_state() == State::SUSPENDED).count()
+    }
+
+    /// How many open regions a task holds.
+    fn held_by(&self, task: u8) -> usize {
+        let held = |region: &&Region| region.is_open() && region.holder == Some(task);
+        self.table.regions.iter().filter(held).count()
+    }
+
+    /// Lets a less urgent task have its turn.
+    fn given_way(&mut self, me: u8) -> Call {
+        let arrived = self.table.tasks[usize::from(me)].arrived;
+        if self.held_by(me) > 0 {
+            self.exit(me)
+        } else if arrived == u16::MAX {
+            call(me, Operation::Clear, arrived.into(), 0, 0)
+        } else {
+            call(me, Operation::Wait, (!arrived).into(), 0, 0)
+        }
+    }
+
+    /// An open region that passes, if there is one.
+    fn open_region(&mut self, fits: impl Fn(&Table, &Region) -> bool) -> Option<u32> {
+        let Author { random, table, .. } = self;
+        let open = (0..)
+            .zip(&table.regions)
+            .filter(|(_, region)| region.is_open() && fits(table, region));
+        random.any(open.map(|(number, _)| number))
     }
 
     fn alive(&self) -> usize {
@@ -232,12 +381,29 @@ impl Author {
         if self.alive() == usize::from(self.table.task_count) && !self.random.one_in(8) {
             return self.signal(me);
         }
+        if self.in_order() && !self.random.one_in(32) {
+            return self.started_behind(me);
+        }
         call(me, Operation::Start, self.task(|state| state == State::STOPPED), 0, 0)
+    }
+
+    /// A stopped task that is less urgent than the caller, and so doesn't come to call out of turn; with none left, a signal.
+    fn started_behind(&mut self, me: u8) -> Call {
+        let tasks = &self.table.tasks[..self.table.task_count.into()];
+        let urgency = self.table.urgencies()[usize::from(me)];
+        let behind = (0..)
+            .zip(tasks)
+            .filter(|(_, task)| task.state == State::STOPPED && task.priority > urgency);
+        match self.random.any(behind.map(|(number, _)| number)) {
+            Some(number) => call(me, Operation::Start, number, 0, 0),
+            None => self.signal(me),
+        }
     }
 
     fn stop(&mut self, me: u8) -> Call {
         let number = self.task(|state| state != State::STOPPED);
-        if self.alive() > self.manner.kept_alive {
+        let spared = self.has_open() && !self.random.one_in(4);
+        if self.alive() > self.manner.kept_alive && !spared {
             call(me, Operation::Stop, number, 0, 0)
         } else {
             self.start(me)
@@ -245,7 +411,10 @@ impl Author {
     }
 
     fn signal(&mut self, me: u8) -> Call {
-        let number = if self.random.below(10) < 7 {
+        // While a line grows, nobody is woken out of turn.
+        let number = if self.in_order() && !self.random.one_in(32) {
+            self.task(|state| state == State::READY)
+        } else if self.random.below(10) < 7 {
             self.task(|state| state == State::WAITING)
         } else {
             self.task(|state| state != State::STOPPED)
@@ -279,8 +448,18 @@ impl Author {
         self.random.below(self.table.region_count.max(1).into())
     }
 
+    /// An EXIT, unless others are still to come and wait for what the caller holds.
+    fn leave(&mut self, me: u8) -> Call {
+        let kept = self.table.holder().is_none() && self.held_by(me) > 0;
+        if kept && !self.random.one_in(64) {
+            self.queue_call(me)
+        } else {
+            self.exit(me)
+        }
+    }
+
     fn exit(&mut self, me: u8) -> Call {
-        let occupied = (0..).zip(&self.table.regions).filter(|(_, region)| region.holder.is_some());
+        let occupied = (0..).zip(&self.table.regions).filter(|(_, region)| region.holder == Some(me));
         let held = self.random.any(occupied.map(|(number, _)| number));
         let number = match held {
             Some(number) if !self.random.one_in(16) => number,
@@ -333,6 +512,13 @@ impl Author {
         let delay = self.random.within(1, self.manner.longest_delay);
         call(me, Operation::Arm, self.timer(me), self.random.below(16), delay)
     }
+}
+
+/// Whether the region's holder waits for a task, through any chain.
+fn waits_for(table: &Table, region: &Region, task: u8) -> bool {
+    region
+        .holder
+        .is_some_and(|holder| table.chain(holder.into()).any(|link| link == usize::from(task)))
 }
 
 fn call(caller: u8, operation: Operation, a: u32, b: u32, c: u32) -> Call {

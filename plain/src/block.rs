@@ -3,10 +3,10 @@
 use crate::answer::{Answer, Call, Status, OUTSIDE};
 use crate::configuration::Configuration;
 use crate::queries::Query;
-use crate::table::{Region, State, Table, Timer, PLACES, REGIONS};
+use crate::table::{Awaited, Mark, State, Table, Timer, PLACES};
 
 /// The size of a block.
-pub const SIZE: usize = 3192;
+pub const SIZE: usize = 3272;
 
 /// Takes numbers off the front of a block.
 struct Reader<'a> {
@@ -56,11 +56,13 @@ impl Table {
         table.tasks.iter_mut().for_each(|task| task.arrived = from.half());
         table.tasks.iter_mut().for_each(|task| task.list = from.half());
         table.tasks.iter_mut().for_each(|task| task.operator = from.byte());
-        table.regions = from.bytes::<REGIONS>().map(|held| Region {
-            holder: held.checked_sub(1),
-            entries: 0,
-        });
+        table.tasks.iter_mut().for_each(|task| task.awaits = Awaited(from.byte()));
+        table
+            .regions
+            .iter_mut()
+            .for_each(|region| region.holder = from.byte().checked_sub(1));
         table.regions.iter_mut().for_each(|region| region.entries = from.byte());
+        table.regions.iter_mut().for_each(|region| region.mark = Mark(from.byte()));
         table.queues.iter_mut().for_each(|queue| queue.bound = from.byte());
         table.queues.iter_mut().for_each(|queue| queue.length = from.byte());
         for queue in &mut table.queues {
@@ -94,8 +96,10 @@ impl Table {
         block.extend(self.tasks.iter().flat_map(|task| task.arrived.to_le_bytes()));
         block.extend(self.tasks.iter().flat_map(|task| task.list.to_le_bytes()));
         block.extend(self.tasks.iter().map(|task| task.operator));
+        block.extend(self.tasks.iter().map(|task| task.awaits.0));
         block.extend(self.regions.iter().map(|region| holder_byte(region.holder)));
         block.extend(self.regions.iter().map(|region| region.entries));
+        block.extend(self.regions.iter().map(|region| region.mark.0));
         block.extend(self.queues.iter().map(|queue| queue.bound));
         block.extend(self.queues.iter().map(|queue| queue.length));
         block.extend(self.queues.iter().flat_map(|queue| queue.elements).flat_map(u32::to_le_bytes));

@@ -1,7 +1,7 @@
 //! The thirteen operations, on a table that is changed in place.
 
 use crate::answer::{Answer, Call, Status, OUTSIDE};
-use crate::table::{is_met, operator, Queue, Region, State, Table, Task, Timer, CRITERIA, EVENTS, TIMERS};
+use crate::table::{is_met, operator, Awaited, Queue, State, Table, Task, Timer, CRITERIA, EVENTS, TIMERS};
 
 /// The longest delay of a timer.
 pub const LONGEST_DELAY: u32 = 2_147_483_647;
@@ -56,6 +56,11 @@ const DONE: Reply = Reply {
     status: Status::Done,
     value: 0,
     key: 0,
+};
+
+const WAITS: Reply = Reply {
+    status: Status::Waits,
+    ..DONE
 };
 
 /// A refusal's status, as an error so that `?` hands it on.
@@ -136,10 +141,10 @@ impl Table {
         let me = usize::from(caller);
         match operation {
             Operation::Start => self.start(a),
-            Operation::Stop => self.stop(a, me),
-            Operation::End => self.end(me),
+            Operation::Stop => self.stop(caller, a),
+            Operation::End => self.end(caller),
             Operation::Signal => self.signal(a, b),
-            Operation::Wait => self.wait(me, a, b),
+            Operation::Wait => self.wait(caller, a, b),
             Operation::Clear => self.clear(me, a),
             Operation::Enter => self.enter(caller, a),
             Operation::Exit => self.exit(caller, a),
@@ -156,7 +161,7 @@ impl Table {
         Ok(DONE)
     }
 
-    fn ensure_outside_regions(&self) -> Result<(), Status> {
+    fn ensure_no_closed_region(&self) -> Result<(), Status> {
         ensure(self.holder().is_none(), Status::InRegion)
     }
 
@@ -172,10 +177,6 @@ impl Table {
         Ok(&mut self.queues[index(number, self.queue_count)?])
     }
 
-    fn region_mut(&mut self, number: u32) -> Result<&mut Region, Status> {
-        Ok(&mut self.regions[index(number, self.region_count)?])
-    }
-
     fn start(&mut self, number: u32) -> Outcome {
         let number = index(number, self.task_count)?;
         let task = &mut self.tasks[number];
@@ -184,24 +185,27 @@ impl Table {
         self.elect()
     }
 
-    fn stop(&mut self, number: u32, me: usize) -> Outcome {
+    fn stop(&mut self, caller: u8, number: u32) -> Outcome {
         let number = index(number, self.task_count)?;
         ensure(self.tasks[number].state != State::STOPPED, Status::WrongState)?;
-        if number == me {
-            self.ensure_outside_regions()?;
+        let number = number as u8;
+        if number == caller {
+            self.ensure_no_closed_region()?;
         }
         self.halt(number)
     }
 
-    fn end(&mut self, me: usize) -> Outcome {
-        self.ensure_outside_regions()?;
-        self.halt(me)
+    fn end(&mut self, caller: u8) -> Outcome {
+        self.ensure_no_closed_region()?;
+        self.halt(caller)
     }
 
-    fn halt(&mut self, number: usize) -> Outcome {
-        self.tasks[number] = self.tasks[number].blank(State::STOPPED);
+    fn halt(&mut self, number: u8) -> Outcome {
+        ensure(!self.holds_open(number), Status::HoldsOpen)?;
+        let task = &mut self.tasks[usize::from(number)];
+        *task = task.blank(State::STOPPED);
         for timer in &mut self.timers {
-            if timer.armed != 0 && usize::from(timer.owner) == number {
+            if timer.armed != 0 && timer.owner == number {
                 *timer = Timer::default();
             }
         }
@@ -221,11 +225,12 @@ impl Table {
         Ok(DONE)
     }
 
-    fn wait(&mut self, me: usize, list: u32, operator: u32) -> Outcome {
+    fn wait(&mut self, caller: u8, list: u32, operator: u32) -> Outcome {
         let list = event_list(list)?;
         let operator = event_operator(operator)?;
-        self.ensure_outside_regions()?;
-        let task = &mut self.tasks[me];
+        self.ensure_no_closed_region()?;
+        ensure(!self.holds_open(caller), Status::InRegion)?;
+        let task = &mut self.tasks[usize::from(caller)];
         if is_met(list, operator, task.arrived) {
             return Ok(DONE);
         }
@@ -233,10 +238,7 @@ impl Table {
         task.list = list;
         task.operator = operator;
         self.elected = self.election();
-        Ok(Reply {
-            status: Status::Waits,
-            ..DONE
-        })
+        Ok(WAITS)
     }
 
     fn clear(&mut self, me: usize, list: u32) -> Outcome {
@@ -245,16 +247,33 @@ impl Table {
         Ok(DONE)
     }
 
-    /// A region that is not free is the caller's, since the caller is elected. So is the election: nothing changes there.
+    /// A region that is free or the caller's own. The caller is elected and stays so: nothing that the election looks at changes.
     fn enter(&mut self, caller: u8, number: u32) -> Outcome {
-        let region = self.region_mut(number)?;
-        region.entries = region.entries.checked_add(1).ok_or(Status::TooManyEntries)?;
-        region.holder = Some(caller);
-        Ok(DONE)
+        let number = index(number, self.region_count)?;
+        let region = &mut self.regions[number];
+        match region.holder {
+            Some(holder) if holder != caller => self.wait_in_line(caller, number, holder),
+            _ => {
+                region.entries = region.entries.checked_add(1).ok_or(Status::TooManyEntries)?;
+                region.holder = Some(caller);
+                Ok(DONE)
+            }
+        }
+    }
+
+    /// A region that another task holds is open, since a closed one's holder would be elected in the caller's place.
+    fn wait_in_line(&mut self, caller: u8, region: usize, holder: u8) -> Outcome {
+        self.ensure_no_closed_region()?;
+        let caller = usize::from(caller);
+        ensure(self.chain(holder.into()).all(|task| task != caller), Status::ClosesCircle)?;
+        self.tasks[caller].awaits = Awaited::of(region);
+        self.elected = self.election();
+        Ok(WAITS)
     }
 
     fn exit(&mut self, caller: u8, number: u32) -> Outcome {
-        let region = self.region_mut(number)?;
+        let number = index(number, self.region_count)?;
+        let region = &mut self.regions[number];
         if region.holder != Some(caller) {
             return Err(Status::NotHeld);
         }
@@ -262,8 +281,27 @@ impl Table {
             region.entries -= 1;
             return Ok(DONE);
         }
-        *region = Region::default();
+        if region.is_open() {
+            return self.hand_on(number);
+        }
+        region.holder = None;
+        region.entries = 0;
         self.elect()
+    }
+
+    /// An open region goes to the first in its line, who has then entered it once. Without a line it is free, and nobody's urgency changes.
+    fn hand_on(&mut self, number: usize) -> Outcome {
+        let heir = self.first_in_line(number);
+        let region = &mut self.regions[number];
+        region.holder = heir;
+        region.entries = u8::from(heir.is_some());
+        match heir {
+            Some(heir) => {
+                self.tasks[usize::from(heir)].awaits = Awaited::NONE;
+                self.elect()
+            }
+            None => Ok(DONE),
+        }
     }
 
     fn send(&mut self, queue: u32, element: u32, criterion: u32) -> Outcome {

@@ -1,8 +1,8 @@
 //! A configuration, and the fresh table that it gives.
 
-use crate::table::{State, Table, PLACES, QUEUES, REGIONS, TASKS};
+use crate::table::{Mark, State, Table, PLACES, QUEUES, REGIONS, TASKS};
 
-/// Counts, priorities and bounds. Entries past a count are not read.
+/// Counts, priorities, bounds, and a mark for each region. Entries past a count are not read.
 #[derive(Clone, Copy, Debug, PartialEq, Eq)]
 pub struct Configuration<'a> {
     pub tasks: u8,
@@ -10,6 +10,7 @@ pub struct Configuration<'a> {
     pub queues: u8,
     pub priorities: &'a [u8],
     pub bounds: &'a [u8],
+    pub marks: &'a [u8],
 }
 
 /// Whether the three counts are in range.
@@ -25,7 +26,8 @@ impl Configuration<'_> {
         }
         let priorities = self.priorities.get(..self.tasks.into())?;
         let bounds = self.bounds.get(..self.queues.into())?;
-        if !bounds.iter().all(|&bound| (1..=PLACES).contains(&bound.into())) {
+        let marks = self.marks.get(..self.regions.into())?;
+        if !bounds.iter().all(|&bound| (1..=PLACES).contains(&bound.into())) || marks.iter().any(|&mark| mark > Mark::OPEN.0) {
             return None;
         }
         let mut table = Table {
@@ -40,6 +42,9 @@ impl Configuration<'_> {
         }
         for (queue, &bound) in table.queues.iter_mut().zip(bounds) {
             queue.bound = bound;
+        }
+        for (region, &mark) in table.regions.iter_mut().zip(marks) {
+            region.mark = Mark(mark);
         }
         table.tasks[0].state = State::READY;
         Some(table)

@@ -62,7 +62,8 @@ pub fn call_line(call: &Call) -> String {
 /// A configuration as a line, with its line feed.
 pub fn configuration_line(configuration: &Configuration) -> String {
     let counts = [configuration.tasks, configuration.regions, configuration.queues];
-    let numbers = counts.iter().chain(configuration.priorities).chain(configuration.bounds);
+    let lists = [configuration.priorities, configuration.bounds, configuration.marks];
+    let numbers = counts.iter().chain(lists.into_iter().flatten());
     numbers.map(|number| format!("{number:02X}")).chain(["\n".into()]).collect()
 }
 
@@ -134,16 +135,18 @@ fn first_line(line: Option<&[u8]>) -> Result<Table, Status> {
     if !counts_fit(tasks, regions, queues) {
         return Err(Status::Configuration);
     }
-    if lists.len() != usize::from(tasks) + usize::from(queues) {
+    if lists.len() != usize::from(tasks) + usize::from(queues) + usize::from(regions) {
         return Err(Status::Malformed);
     }
-    let (priorities, bounds) = lists.split_at(tasks.into());
+    let (priorities, lists) = lists.split_at(tasks.into());
+    let (bounds, marks) = lists.split_at(queues.into());
     let configuration = Configuration {
         tasks,
         regions,
         queues,
         priorities,
         bounds,
+        marks,
     };
     configuration.fresh().ok_or(Status::Configuration)
 }

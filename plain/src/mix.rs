@@ -18,14 +18,15 @@ impl Mix {
         *self.counts.entry((operation, answer.status)).or_default() += 1;
     }
 
-    /// Which pairs of operation and status a valid table can give and did not, and which it cannot give and did.
-    pub fn amiss(&self) -> Vec<String> {
+    /// Which pairs of operation and status a valid table can give and did not, and which it cannot give and did. The table has closed
+    /// regions, and `open` ones or not.
+    pub fn amiss(&self, open: bool) -> Vec<String> {
         let operations = Operation::ALL.map(Some).into_iter().chain([None]);
         let pairs = operations.flat_map(|operation| ALL_STATUSES.map(|status| (operation, status)));
         pairs
             .filter_map(|(operation, status)| {
                 let occurred = self.counts.contains_key(&(operation.map(|known| known as u8), status));
-                let expected = reachable(operation).contains(&status);
+                let expected = reachable(operation, open).contains(&status);
                 (occurred != expected).then(|| {
                     let what = if occurred { "must not occur" } else { "does not occur" };
                     format!("{} with status {} {what}", name(operation), status as u8)
@@ -35,7 +36,7 @@ impl Mix {
     }
 }
 
-const ALL_STATUSES: [Status; 16] = [
+const ALL_STATUSES: [Status; 18] = [
     Status::Done,
     Status::Waits,
     Status::NotValid,
@@ -52,10 +53,12 @@ const ALL_STATUSES: [Status; 16] = [
     Status::Malformed,
     Status::TooManyEntries,
     Status::NotHeld,
+    Status::ClosesCircle,
+    Status::HoldsOpen,
 ];
 
-/// The statuses that an operation can get on a valid table: document 01's list, read by operation.
-fn reachable(operation: Option<Operation>) -> Vec<Status> {
+/// The statuses that an operation can get on a valid table: document 01's list with what was added, read by operation.
+fn reachable(operation: Option<Operation>, open: bool) -> Vec<Status> {
     use Operation::*;
     use Status::*;
     let Some(operation) = operation else {
@@ -78,6 +81,13 @@ fn reachable(operation: Option<Operation>) -> Vec<Status> {
         Retrieve => statuses.push(NothingFits),
         Exit => statuses.push(NotHeld),
         Clear | Tick => {}
+    }
+    if open {
+        match operation {
+            Enter => statuses.extend([Waits, InRegion, ClosesCircle]),
+            Stop | End => statuses.push(HoldsOpen),
+            _ => {}
+        }
     }
     statuses
 }

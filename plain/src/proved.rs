@@ -14,6 +14,8 @@ extern "C" {
         priorities_length: usize,
         bounds: *const u8,
         bounds_length: usize,
+        marks: *const u8,
+        marks_length: usize,
     ) -> u64;
     fn tankwesho_call(block: *mut u8, block_length: usize, caller: u8, operation: u8, a: u32, b: u32, c: u32) -> u64;
     fn tankwesho_replay(
@@ -35,8 +37,9 @@ pub fn fresh(block: &mut [u8], configuration: &Configuration) -> u64 {
         queues,
         priorities,
         bounds,
+        marks,
     } = *configuration;
-    // SAFETY: the three slices are lent for the call, each with its length.
+    // SAFETY: the four slices are lent for the call, each with its length.
     unsafe {
         tankwesho_fresh(
             block.as_mut_ptr(),
@@ -48,6 +51,8 @@ pub fn fresh(block: &mut [u8], configuration: &Configuration) -> u64 {
             priorities.len(),
             bounds.as_ptr(),
             bounds.len(),
+            marks.as_ptr(),
+            marks.len(),
         )
     }
 }

@@ -59,7 +59,7 @@ impl Table {
             Query::Empty { queue } => Ok((self.queue(queue)?.length == 0).into()),
             Query::Full { queue } => Ok(self.queue(queue)?.is_full().into()),
             Query::Priority { task } => Ok(self.task(task)?.priority.into()),
-            Query::State { task } => Ok(self.task(task)?.state.0.into()),
+            Query::State { task } => Ok(self.task(task)?.told_state().0.into()),
         }
     }
 }

@@ -1,13 +1,14 @@
-//! When a table is valid: document 01's list, with T-01's rules on timers and T-04's on entries.
+//! When a table is valid: document 01's list, with T-01's rules on timers, T-04's on entries and T-09's on regions that are waited for.
 
 use crate::calls::LONGEST_DELAY;
-use crate::table::{is_met, operator, Queue, Region, State, Table, Task, Timer, CRITERIA, EVENTS, PLACES, QUEUES, REGIONS, TASKS};
+use crate::table::{is_met, operator, Mark, Queue, Region, State, Table, Task, Timer, CRITERIA, EVENTS, PLACES, QUEUES, REGIONS, TASKS};
 
 impl Table {
     pub fn is_valid(&self) -> bool {
         self.counts_are_valid()
             && self.tasks_are_valid()
             && self.regions_are_valid()
+            && self.lines_are_valid()
             && self.queues_are_valid()
             && self.timers_are_valid()
             && self.elected == self.election()
@@ -25,17 +26,58 @@ impl Table {
         used.iter().fold(true, |valid, task| valid & task.is_valid()) && unused.iter().all(|task| *task == Task::default())
     }
 
-    /// Every holder is the elected task, so there is one; being elected, it must be ready.
+    /// Every holder of a closed region is the elected task, so there is one; being elected, it must be ready.
     fn regions_are_valid(&self) -> bool {
         let (used, unused) = self.regions.split_at(self.region_count.into());
         used.iter().all(|region| self.region_is_valid(region)) && unused.iter().all(|region| *region == Region::default())
     }
 
     fn region_is_valid(&self, region: &Region) -> bool {
-        match region.holder {
-            None => region.entries == 0,
-            Some(holder) => region.entries > 0 && self.elected == Some(holder) && self.state_of(holder) == Some(State::READY),
-        }
+        let marked = region.mark == Mark::CLOSED || region.mark == Mark::OPEN;
+        marked
+            && match region.holder {
+                None => region.entries == 0,
+                Some(holder) => region.entries > 0 && self.may_hold(region.mark, holder),
+            }
+    }
+
+    fn may_hold(&self, mark: Mark, holder: u8) -> bool {
+        // Stored as ready: it is ready, or waits for a region.
+        self.state_of(holder) == Some(State::READY)
+            && (mark == Mark::OPEN || self.elected == Some(holder) && self.tasks[usize::from(holder)].is_ready())
+    }
+
+    /// Mostly nobody waits for a region, which is seen at once.
+    fn lines_are_valid(&self) -> bool {
+        !self.anybody_is_suspended() || (0..TASKS).all(|task| self.line_is_valid(task)) && self.chains_end()
+    }
+
+    /// Whoever waits for a region is stored as ready, and waits for an open one that another task holds.
+    fn line_is_valid(&self, number: usize) -> bool {
+        let task = &self.tasks[number];
+        task.awaits.region().is_none_or(|region| {
+            let region = self.regions.get(region).filter(|region| region.is_open());
+            let holder = region.and_then(|region| region.holder);
+            task.state == State::READY && holder.is_some_and(|holder| usize::from(holder) != number)
+        })
+    }
+
+    /// Each chain is followed to a task that is known to end, and then all of it is known.
+    fn chains_end(&self) -> bool {
+        let mut ends = 0u64;
+        (0..TASKS).all(|task| {
+            let mut chain = 0u64;
+            let mut next = Some(task);
+            while let Some(number) = next.filter(|number| ends >> number & 1 == 0) {
+                if chain >> number & 1 != 0 {
+                    return false;
+                }
+                chain |= 1 << number;
+                next = self.held_up_by(number);
+            }
+            ends |= chain;
+            true
+        })
     }
 
     fn queues_are_valid(&self) -> bool {

@@ -1,11 +1,14 @@
-//! The examples of document 01, and cases of T-01, T-03, T-04, T-06 and T-08, each by its sentence.
+//! The examples of document 01, and cases of T-01, T-03, T-04, T-06, T-08 and T-09, each by its sentence.
 
 use plain::answer::{Answer, Call, Status};
+use plain::author::{Author, Manner};
 use plain::block;
 use plain::configuration::Configuration;
 use plain::lines::run;
+use plain::logs::{CHAINED, CHAINED_64};
 use plain::queries::Query;
-use plain::table::Table;
+use plain::random::Random;
+use plain::table::{Awaited, Mark, State, Table};
 
 const OUT: u8 = 255;
 const START: u8 = 0;
@@ -30,6 +33,7 @@ fn fresh() -> Table {
         queues: 1,
         priorities: &[5, 5, 2],
         bounds: &[2],
+        marks: &[0, 0],
     };
     configuration.fresh().unwrap()
 }
@@ -271,6 +275,7 @@ fn t08_a_refusal_a_query_and_a_configuration_give_255() {
         queues: 0,
         priorities: &[5, 2],
         bounds: &[],
+        marks: &[],
     };
     assert_eq!(block::fresh(&mut block, &configuration(0)), 20 | 255 << 8 | 255 << 24);
     assert_eq!(block::fresh(&mut block, &configuration(2)), 255 << 24);
@@ -293,7 +298,7 @@ fn answered(input: &str) -> String {
 
 #[test]
 fn whole_example_of_document_01() {
-    let input = "03020105050202\n0000000000020000000000000000\nFF03000000000000000100000000\n";
+    let input = "030201050502020000\n0000000000020000000000000000\nFF03000000000000000100000000\n";
     assert_eq!(answered(input), "00000000000000FF\n0000000000000200\n0F000000000002FF\n");
     assert_eq!(answered(""), "");
 }
@@ -302,20 +307,376 @@ fn whole_example_of_document_01() {
 fn odd_first_lines() {
     for (line, status) in [
         ("\n", "15"),
-        ("03020105050202", "15"),
-        ("03020105050202\r\n", "15"),
-        ("0302010505020a\n", "15"),
+        ("030201050502020000", "15"),
+        ("030201050502020000\r\n", "15"),
+        ("0302010505020a0000\n", "15"),
         ("01000\n", "15"),
         ("0000000\n", "15"),
         ("000000\n", "14"),
         ("21000000\n", "15"),
         ("41000000\n", "14"),
         ("030201050502\n", "15"),
-        ("03020105050200\n", "14"),
-        ("03020105050241\n", "14"),
+        ("03020105050202\n", "15"),
+        ("0302010505020200\n", "15"),
+        ("03020105050202000000\n", "15"),
+        ("030201050502000000\n", "14"),
+        ("030201050502410000\n", "14"),
+        ("030201050502020200\n", "14"),
+        ("0302010505020200FF\n", "14"),
     ] {
         assert_eq!(answered(line), format!("{status}0000000000FFFF\n"), "{line:?}");
     }
     let long = "0".repeat(193) + "\n0000000000020000000000000000\nX\n";
     assert_eq!(answered(&long), "150000000000FFFF\n0A0000000000FFFF\n150000000000FFFF\n");
+}
+
+/// A fresh table without queues, of these priorities and marks.
+fn marked(priorities: &[u8], marks: &[u8]) -> Table {
+    let configuration = Configuration {
+        tasks: priorities.len() as u8,
+        regions: marks.len() as u8,
+        queues: 0,
+        priorities,
+        bounds: &[],
+        marks,
+    };
+    configuration.fresh().unwrap()
+}
+
+/// Status, elected and displaced task of one call, whose c is 0.
+fn whole(table: &mut Table, caller: u8, operation: u8, a: u32, b: u32) -> (u8, u8, u8) {
+    let answer = made(table, caller, operation, a, b, 0);
+    (answer.status as u8, answer.elected, answer.displaced)
+}
+
+fn state(table: &Table, task: u32) -> u32 {
+    table.query(Query::State { task }).value
+}
+
+#[test]
+fn t09_marks_are_a_list_of_the_configuration() {
+    let refused = |marks: &[u8]| {
+        let configuration = Configuration {
+            tasks: 1,
+            regions: 2,
+            queues: 0,
+            priorities: &[5],
+            bounds: &[],
+            marks,
+        };
+        configuration.fresh().is_none()
+    };
+    assert!(refused(&[]) && refused(&[0]) && refused(&[0, 2]) && refused(&[255, 0]));
+    assert!(!refused(&[1, 0]) && !refused(&[1, 1, 2]));
+    assert_eq!(marked(&[5], &[0, 1]).regions[1].mark, Mark::OPEN);
+    // 6 + 2 (64 + 8 + 16) digits: the longest first line.
+    let line = "401008".to_string() + &"00".repeat(64) + &"01".repeat(8) + &"01".repeat(16) + "\n";
+    assert_eq!(line.len(), 183);
+    assert_eq!(answered(&line), "00000000000000FF\n");
+}
+
+/// 002's tournament: the holder of 40 runs with 10 while the task of 10 waits, and the region goes by urgency.
+#[test]
+fn t09_the_holder_takes_the_smallest_number_of_those_that_wait() {
+    let mut table = marked(&[40, 10, 20, 30], &[1]);
+    assert_eq!(whole(&mut table, 0, ENTER, 0, 0), (0, 0, OUT));
+    // The least urgent comes first, so that the line is not in the order of coming.
+    for (task, urgency) in [(3, 30), (2, 20), (1, 10)] {
+        assert_eq!(whole(&mut table, 0, START, task, 0), (0, task as u8, 0));
+        assert_eq!(whole(&mut table, task as u8, ENTER, 0, 0), (1, 0, OUT));
+        assert_eq!((state(&table, task), state(&table, 0)), (3, 1));
+        assert_eq!(table.urgencies()[0], urgency);
+        assert_eq!(table.query(Query::Priority { task: 0 }).value, 40);
+    }
+    assert_eq!(whole(&mut table, 0, EXIT, 0, 0), (0, 1, 0));
+    assert_eq!((table.regions[0].holder, table.regions[0].entries), (Some(1), 1));
+    assert_eq!((state(&table, 1), state(&table, 2)), (1, 3));
+    assert_eq!(whole(&mut table, 1, EXIT, 0, 0), (0, 1, OUT));
+    assert_eq!(table.regions[0].holder, Some(2));
+    assert_eq!(whole(&mut table, 1, END, 0, 0), (0, 2, OUT));
+    assert_eq!(whole(&mut table, 2, EXIT, 0, 0), (0, 2, OUT));
+    assert_eq!(whole(&mut table, 2, END, 0, 0), (0, 3, OUT));
+    assert_eq!(whole(&mut table, 3, EXIT, 0, 0), (0, 3, OUT));
+    assert_eq!((table.regions[0].holder, table.regions[0].entries), (None, 0));
+}
+
+/// "through any chain"; "lowest number of equals".
+#[test]
+fn t09_urgency_goes_through_a_chain_and_equals_go_by_number() {
+    let mut table = marked(&[9, 8, 7, 6, 7], &[1, 1, 1]);
+    whole(&mut table, 0, ENTER, 0, 0);
+    whole(&mut table, 0, START, 1, 0);
+    whole(&mut table, 1, ENTER, 1, 0);
+    assert_eq!(whole(&mut table, 1, ENTER, 0, 0), (1, 0, OUT));
+    whole(&mut table, 0, START, 4, 0);
+    assert_eq!(whole(&mut table, 4, ENTER, 1, 0), (1, 0, OUT));
+    // Task 2 has 7, as task 0 has through task 4: of equals the lowest number, so that task 0 is not pushed aside.
+    assert_eq!(whole(&mut table, 0, START, 2, 0), (0, 0, OUT));
+    assert_eq!(whole(&mut table, 0, START, 3, 0), (0, 3, 0));
+    assert_eq!(whole(&mut table, 3, ENTER, 1, 0), (1, 0, OUT));
+    assert_eq!(table.urgencies()[..5], [6, 6, 7, 6, 7]);
+    // Task 1 is handed region 0, and is as urgent as task 3.
+    assert_eq!(whole(&mut table, 0, EXIT, 0, 0), (0, 1, 0));
+    assert_eq!(table.urgencies()[..5], [9, 6, 7, 6, 7]);
+    // Region 1 goes to task 3, and not to task 4, which came first.
+    assert_eq!(whole(&mut table, 1, EXIT, 1, 0), (0, 3, 1));
+    assert_eq!(whole(&mut table, 3, ENTER, 0, 0), (1, 1, OUT));
+    assert_eq!(table.urgencies()[..5], [9, 6, 7, 6, 7]);
+    assert_eq!(whole(&mut table, 1, EXIT, 0, 0), (0, 3, 1));
+    assert_eq!(whole(&mut table, 3, WAIT, 1, 0), (16, 3, OUT));
+    // Two that are equally urgent wait: the lower number is first.
+    let mut table = marked(&[9, 5, 5], &[1]);
+    whole(&mut table, 0, ENTER, 0, 0);
+    whole(&mut table, 0, START, 2, 0);
+    assert_eq!(whole(&mut table, 2, ENTER, 0, 0), (1, 0, OUT));
+    table.tasks[1].state = State::READY;
+    table.tasks[1].awaits = Awaited::of(0);
+    assert_eq!(whole(&mut table, 0, EXIT, 0, 0), (0, 1, 0));
+}
+
+/// An urgent task waits for a region of the least urgent one: a task between them doesn't run before the region is left.
+#[test]
+fn t09_no_task_between_holds_up_the_most_urgent() {
+    let mut table = marked(&[9, 5, 1], &[1]);
+    whole(&mut table, 0, ENTER, 0, 0);
+    whole(&mut table, 0, START, 2, 0);
+    assert_eq!(whole(&mut table, 2, ENTER, 0, 0), (1, 0, OUT));
+    assert_eq!(whole(&mut table, 0, START, 1, 0), (0, 0, OUT));
+    assert_eq!(whole(&mut table, 0, EXIT, 0, 0), (0, 2, 0));
+    // Without anybody in line, an open region doesn't stop preemption.
+    let mut table = marked(&[9, 5, 1], &[1]);
+    whole(&mut table, 0, ENTER, 0, 0);
+    assert_eq!(whole(&mut table, 0, START, 1, 0), (0, 1, 0));
+    // A closed one does, also where its holder hands on an open one inside.
+    let mut table = marked(&[9, 5, 1], &[1, 0]);
+    whole(&mut table, 0, ENTER, 0, 0);
+    whole(&mut table, 0, START, 1, 0);
+    assert_eq!(whole(&mut table, 1, ENTER, 0, 0), (1, 0, OUT));
+    whole(&mut table, 0, ENTER, 1, 0);
+    assert_eq!(whole(&mut table, 0, START, 2, 0), (0, 0, OUT));
+    assert_eq!(whole(&mut table, 0, EXIT, 0, 0), (0, 0, OUT));
+    assert_eq!((table.regions[0].holder, state(&table, 1)), (Some(1), 1));
+    assert_eq!(whole(&mut table, 0, EXIT, 1, 0), (0, 2, 0));
+}
+
+/// Two tasks that cross two regions, and four philosophers.
+#[test]
+fn t09_an_enter_that_would_close_a_circle_gets_24() {
+    let mut table = marked(&[2, 1], &[1, 1]);
+    whole(&mut table, 0, ENTER, 0, 0);
+    whole(&mut table, 0, START, 1, 0);
+    whole(&mut table, 1, ENTER, 1, 0);
+    assert_eq!(whole(&mut table, 1, ENTER, 0, 0), (1, 0, OUT));
+    let before = table.clone();
+    assert_eq!(whole(&mut table, 0, ENTER, 1, 0), (24, 0, OUT));
+    assert_eq!(table, before);
+    assert_eq!(whole(&mut table, 0, EXIT, 0, 0), (0, 1, 0));
+
+    let mut table = marked(&[4, 3, 2, 1], &[1; 4]);
+    for philosopher in 0..4 {
+        whole(&mut table, philosopher, ENTER, philosopher.into(), 0);
+        if philosopher < 3 {
+            whole(&mut table, philosopher, START, u32::from(philosopher) + 1, 0);
+        }
+    }
+    // Each waits for its neighbour's fork, and lends 1 to the one that is elected next.
+    assert_eq!(whole(&mut table, 3, ENTER, 0, 0), (1, 0, OUT));
+    assert_eq!(whole(&mut table, 0, ENTER, 1, 0), (1, 1, OUT));
+    assert_eq!(whole(&mut table, 1, ENTER, 2, 0), (1, 2, OUT));
+    assert_eq!(whole(&mut table, 2, ENTER, 3, 0), (24, 2, OUT));
+    assert_eq!(table.urgencies()[..4], [1, 1, 1, 1]);
+}
+
+#[test]
+fn t09_what_a_holder_may_not_do() {
+    // Of an open region: WAIT gets 16, even if it would pass; END and STOP get 25, by whomever.
+    let mut table = marked(&[5, 2], &[1, 0, 1]);
+    whole(&mut table, 0, ENTER, 0, 0);
+    whole(&mut table, 0, SIGNAL, 0, 0);
+    assert_eq!(whole(&mut table, 0, WAIT, 1, 0), (16, 0, OUT));
+    assert_eq!(whole(&mut table, 0, WAIT, 1, 2), (19, 0, OUT));
+    assert_eq!(whole(&mut table, 0, END, 0, 0), (25, 0, OUT));
+    assert_eq!(whole(&mut table, 0, STOP, 0, 0), (25, 0, OUT));
+    whole(&mut table, 0, START, 1, 0);
+    assert_eq!(whole(&mut table, 1, STOP, 0, 0), (25, 1, OUT));
+    // "16 now counts closed regions only": the region that is held is another task's, and open.
+    assert_eq!(whole(&mut table, 1, WAIT, 1, 0), (1, 0, OUT));
+    whole(&mut table, OUT, SIGNAL, 0, 1);
+    // Inside a closed region: 16 before 24 and 25.
+    whole(&mut table, 1, ENTER, 2, 0);
+    whole(&mut table, 1, ENTER, 1, 0);
+    assert_eq!(whole(&mut table, 1, ENTER, 0, 0), (16, 1, OUT));
+    assert_eq!(whole(&mut table, 1, END, 0, 0), (16, 1, OUT));
+    assert_eq!(whole(&mut table, 1, STOP, 1, 0), (16, 1, OUT));
+    assert_eq!(whole(&mut table, 1, STOP, 0, 0), (25, 1, OUT));
+    whole(&mut table, 1, EXIT, 1, 0);
+    assert_eq!(whole(&mut table, 1, ENTER, 0, 0), (1, 0, OUT));
+    assert_eq!(whole(&mut table, 0, ENTER, 1, 0), (0, 0, OUT));
+    assert_eq!(whole(&mut table, 0, ENTER, 2, 0), (16, 0, OUT));
+    whole(&mut table, 0, EXIT, 1, 0);
+    assert_eq!(whole(&mut table, 0, ENTER, 2, 0), (24, 0, OUT));
+    assert_eq!(whole(&mut table, 0, EXIT, 2, 0), (23, 0, OUT));
+    // 22 is for the holder; another one waits, however often the region was entered.
+    let mut table = marked(&[5, 2], &[1]);
+    for _ in 0..255 {
+        assert_eq!(whole(&mut table, 0, ENTER, 0, 0), (0, 0, OUT));
+    }
+    assert_eq!(whole(&mut table, 0, ENTER, 0, 0), (22, 0, OUT));
+    whole(&mut table, 0, START, 1, 0);
+    assert_eq!(whole(&mut table, 1, ENTER, 0, 0), (1, 0, OUT));
+    for _ in 0..254 {
+        assert_eq!(whole(&mut table, 0, EXIT, 0, 0), (0, 0, OUT));
+    }
+    assert_eq!(whole(&mut table, 0, EXIT, 0, 0), (0, 1, 0));
+    assert_eq!(table.regions[0].entries, 1);
+}
+
+#[test]
+fn t09_what_others_may_do_to_a_task_that_waits_for_a_region() {
+    let mut table = marked(&[5, 2, 3], &[1]);
+    whole(&mut table, 0, ENTER, 0, 0);
+    whole(&mut table, 0, START, 1, 0);
+    assert_eq!(made(&mut table, 1, ARM, 0, 3, 1).status, Status::Done);
+    assert_eq!(whole(&mut table, 1, ENTER, 0, 0), (1, 0, OUT));
+    assert_eq!(whole(&mut table, 0, START, 1, 0), (15, 0, OUT));
+    // "a signal to such a task is only recorded", and so is a timer's.
+    assert_eq!(whole(&mut table, OUT, SIGNAL, 7, 1), (0, 0, OUT));
+    assert_eq!(whole(&mut table, OUT, TICK, 0, 0), (0, 0, OUT));
+    assert_eq!((state(&table, 1), table.tasks[1].arrived), (3, 1 << 7 | 1 << 3));
+    // While it waits, its urgency is the holder's; "a stopped task leaves its line".
+    assert_eq!(whole(&mut table, 0, START, 2, 0), (0, 0, OUT));
+    assert_eq!(whole(&mut table, 0, STOP, 1, 0), (0, 2, 0));
+    assert_eq!((state(&table, 1), table.tasks[1].awaits), (0, Awaited::NONE));
+    assert_eq!(whole(&mut table, 2, WAIT, 1, 0), (1, 0, OUT));
+    assert_eq!(whole(&mut table, 0, EXIT, 0, 0), (0, 0, OUT));
+    assert_eq!(table.regions[0].holder, None);
+}
+
+/// "no circle, a state 3 task waits for one occupied open region of another's, and no free region is waited for".
+#[test]
+fn t09_damaged_lines_are_not_valid() {
+    // Tasks 0, 1, 2 hold regions 0, 1, 2; task 1 waits for region 0, task 2 for region 1; region 3 is closed, region 4 open and free.
+    let mut table = marked(&[4, 3, 2, 1], &[1, 1, 1, 0, 1]);
+    whole(&mut table, 0, ENTER, 0, 0);
+    whole(&mut table, 0, START, 1, 0);
+    whole(&mut table, 1, ENTER, 1, 0);
+    whole(&mut table, 1, START, 2, 0);
+    whole(&mut table, 2, ENTER, 2, 0);
+    whole(&mut table, 2, ENTER, 1, 0);
+    assert_eq!(whole(&mut table, 1, ENTER, 0, 0), (1, 0, OUT));
+    let damaged = |damage: &dyn Fn(&mut Table)| {
+        let mut table = table.clone();
+        damage(&mut table);
+        assert_eq!(
+            table
+                .call(&Call {
+                    caller: OUT,
+                    operation: TICK,
+                    a: 0,
+                    b: 0,
+                    c: 0
+                })
+                .status,
+            Status::NotValid
+        );
+    };
+    // Circles of one, two and three tasks, with any task stored as elected.
+    for (task, region) in [(0, 0), (1, 1), (0, 1), (0, 2)] {
+        for elected in [None, Some(0), Some(1), Some(2), Some(3), Some(200)] {
+            damaged(&|table| {
+                table.tasks[task].awaits = Awaited::of(region);
+                table.elected = elected;
+            });
+        }
+    }
+    // A region that is closed, free, not there, and not even in the table.
+    for region in [3, 4, 5, 15, 16, 254] {
+        damaged(&|table| table.tasks[2].awaits = Awaited::of(region));
+    }
+    damaged(&|table| table.regions[1].mark = Mark::CLOSED);
+    damaged(&|table| table.regions[4].mark = Mark(2));
+    damaged(&|table| table.regions[5].mark = Mark::OPEN);
+    damaged(&|table| table.regions[0].holder = None);
+    damaged(&|table| table.regions[0].holder = Some(3));
+    damaged(&|table| table.regions[0].holder = Some(4));
+    damaged(&|table| table.regions[0].entries = 0);
+    damaged(&|table| table.tasks[0].awaits = Awaited::of(15));
+    damaged(&|table| table.tasks[3].awaits = Awaited::of(0));
+    damaged(&|table| table.tasks[4].awaits = Awaited::of(0));
+    damaged(&|table| table.tasks[1].state = State::STOPPED);
+    damaged(&|table| table.tasks[1].state = State::SUSPENDED);
+    damaged(&|table| {
+        table.tasks[1].state = State::WAITING;
+        table.tasks[1].list = 1;
+    });
+    // The elected task is the one of least urgency, and not of least priority; the closed region's holder doesn't wait.
+    damaged(&|table| table.elected = Some(2));
+    damaged(&|table| {
+        table.regions[3].holder = Some(2);
+        table.regions[3].entries = 1;
+        table.elected = Some(2);
+    });
+    let mut closed_too = table.clone();
+    closed_too.regions[3].holder = Some(0);
+    closed_too.regions[3].entries = 1;
+    assert!(closed_too.is_valid());
+}
+
+/// A task's urgency asks its regions, and a region's asks its waiting tasks.
+fn urgency_of_task(table: &Table, task: usize) -> u8 {
+    let regions = (0..table.regions.len()).filter(|&region| table.regions[region].holder == Some(task as u8));
+    regions
+        .map(|region| urgency_of_region(table, region))
+        .fold(table.tasks[task].priority, u8::min)
+}
+
+fn urgency_of_region(table: &Table, region: usize) -> u8 {
+    let line = (0..table.tasks.len()).filter(|&task| table.tasks[task].awaits.region() == Some(region));
+    line.map(|task| urgency_of_task(table, task)).fold(255, u8::min)
+}
+
+/// Over logs with many tasks in chains: urgencies as they are defined, valid tables, and blocks that come back.
+#[test]
+fn t09_logs_with_chains() {
+    for (seed, configuration) in [CHAINED, CHAINED_64].iter().enumerate() {
+        let manner = Manner {
+            slip: 24,
+            longest_delay: 12,
+            kept_alive: 16,
+            in_lines: 24,
+        };
+        let mut author = Author::new(configuration, manner, Random::new(seed as u64));
+        let mut longest = 0;
+        for _ in 0..10_000 {
+            author.call();
+            let table = author.table();
+            assert!(table.is_valid());
+            let urgencies = table.urgencies();
+            for (task, &urgency) in urgencies.iter().enumerate() {
+                assert_eq!(urgency, urgency_of_task(table, task));
+                longest = longest.max(table.chain(task).count() - 1);
+            }
+            assert_eq!(Table::unpacked(&table.packed()).as_ref(), Some(table));
+        }
+        assert!(longest >= 6, "the longest chain has {longest} links");
+    }
+}
+
+#[test]
+fn t09_places_in_a_block() {
+    let mut table = marked(&[5, 2], &[0, 1]);
+    whole(&mut table, 0, ENTER, 1, 0);
+    whole(&mut table, 0, START, 1, 0);
+    whole(&mut table, 1, ENTER, 1, 0);
+    let bytes = table.packed();
+    assert_eq!(bytes.len(), 3272);
+    assert_eq!((bytes[68], bytes[69]), (1, 1));
+    let (awaits, holder, entries, opened) = (452, 516, 532, 548);
+    assert_eq!([bytes[awaits], bytes[awaits + 1], bytes[awaits + 2]], [0, 2, 0]);
+    assert_eq!([bytes[holder], bytes[holder + 1]], [0, 1]);
+    assert_eq!([bytes[entries], bytes[entries + 1]], [0, 1]);
+    assert_eq!([bytes[opened], bytes[opened + 1], bytes[opened + 2]], [0, 1, 0]);
+    assert_eq!(block::query(&bytes, 4, 0, 1, 0), 3 << 32 | 255 << 24);
+    // The size before T-09.
+    assert_eq!(block::query(&bytes[..3192], 4, 0, 1, 0), 10 | 255 << 8 | 255 << 24);
 }

@@ -1,16 +1,16 @@
 -- Laws of the first line: its numbers, two digits each, and each reason to refuse it.
 use Prim.Native.Nat.{ℕ, zero, suc, _+_, _*_, _-_, _/_, _%_, _<_, _≤_}
 use mathlib.Core.Path.{_≡_, refl, sym, ap, _∙_}
-use mathlib.Core.Bool.{Bool, true, false, cond, not, _||_, and-true}
+use mathlib.Core.Bool.{Bool, true, false, cond, not, _&&_, _||_, and-true}
 use mathlib.Core.List.{List, [], _∷_}
 use native.Mathlib.Omega.{arith}
 use lib.Dec.{eqb, ltb, leb}
 use lib.ListN.{length, take, drop, getD, set, replicate, length-drop}
 use lib.Seq.{take-length, take-all, length-take-le, take-append-le, drop-append-le}
 use borrow.Author.Tests.{lt-ltb, le-leb, eq-eqb, ne-eqb, leb-true, leb-false, not-true, not-false}
-use Rattle.rules.specs.Numbers.{taskRoom, priorityEnd, queueRoom, nobody}
+use Rattle.rules.specs.Numbers.{taskRoom, priorityEnd, regionRoom, queueRoom, nobody}
 use Rattle.rules.specs.Words.{all, every, padded}
-use Rattle.rules.specs.Validity.{countsInRange, boundInRange}
+use Rattle.rules.specs.Validity.{countsInRange, boundInRange, markInRange}
 use Rattle.rules.specs.Answers.{done, refused}
 use Rattle.rules.specs.Fresh.{configurationInRange, freshTable, zeroTable, fresh}
 use Rattle.rules.proofs.Bools.{given}
@@ -20,7 +20,7 @@ use Rattle.digits.proofs.Hexadecimal.{two-digits, two-digits-small}
 use Rattle.tables.proofs.Fills.{filled, filled-again, filled-end}
 use Rattle.lines.specs.Ends.{longest, part}
 use Rattle.bench_lines.specs.Start.{firstRefused}
-use Rattle.bench_lines.specs.First.{numberRoom, plain, numbers, tasksIn, regionsIn, queuesIn, prioritiesIn, boundsIn, firstReasons, firstDone}
+use Rattle.bench_lines.specs.First.{numberRoom, plain, numbers, tasksIn, regionsIn, queuesIn, prioritiesIn, boundsIn, marksIn, digitsFor, firstReasons, firstDone}
 use Rattle.bench_lines.proofs.Plain.{plain-short}
 
 -- ---- the numbers of a line
@@ -85,24 +85,35 @@ array-long line a e p =
     let short = plain-short line p in
     rw e (length-padded numberRoom 0 (numbers line) (omega arith))
 
--- a part of the numbers is one of the array
-part-padded : (room from to : ℕ) (xs : List ℕ) → from ≤ to → to ≤ length xs → part from to (padded room 0 xs) ≡ part from to xs
+-- a part of the array is one of the numbers
+part-of : (line a : List ℕ) → a ≡ padded numberRoom 0 (numbers line) → (from count : ℕ) → from + count ≤ length (numbers line)
+    → part from (from + count) a ≡ take count (drop from (numbers line))
 unfolding padded
-part-padded room from to xs h k =
-    let zeros : List ℕ = replicate (room - length xs) 0 in
-    let within : to - from ≤ length (drop from xs) = rw length-drop (omega arith) in
-    rw (drop-append-le from xs zeros (omega arith), take-append-le (to - from) (drop from xs) zeros within)
+part-of line a e from count h =
+    let xs = numbers line in
+    let zeros : List ℕ = replicate (numberRoom - length xs) 0 in
+    let so-many : from + count - from ≡ count = omega arith in
+    let within : count ≤ length (drop from xs) = rw length-drop (omega arith) in
+    rw (e, so-many, drop-append-le from xs zeros (omega arith), take-append-le count (drop from xs) zeros within) refl
+
+-- it is as long as it should be
+part-long : (line : List ℕ) (from count : ℕ) → from + count ≤ length (numbers line) → length (take count (drop from (numbers line))) ≡ count
+part-long line from count h = length-take-le count (drop from (numbers line)) (rw length-drop (omega arith))
 
 -- the tests that are left where counts and lists are right
-fresh-bounds : (tasks regions queues : ℕ) (priorities bounds : List ℕ) → countsInRange tasks regions queues ≡ true → length priorities ≡ tasks
-    → length bounds ≡ queues → every (λ n. ltb n priorityEnd) priorities ≡ true
-    → fresh tasks regions queues priorities bounds
-    ≡ cond (every boundInRange bounds) (done (freshTable tasks regions queues priorities bounds) 0 0 0 nobody) (refused zeroTable 20)
+fresh-left : (tasks regions queues : ℕ) (priorities bounds marks : List ℕ) → countsInRange tasks regions queues ≡ true
+    → length priorities ≡ tasks → length bounds ≡ queues → length marks ≡ regions → every (λ n. ltb n priorityEnd) priorities ≡ true
+    → fresh tasks regions queues priorities bounds marks
+    ≡ cond (every boundInRange bounds && every markInRange marks)
+    (done (freshTable tasks regions queues priorities bounds marks) 0 0 0 nobody)
+    (refused zeroTable 20)
 unfolding fresh configurationInRange all
-fresh-bounds tasks regions queues priorities bounds c p b s =
+fresh-left tasks regions queues priorities bounds marks c p b m s =
     let ps : take tasks priorities ≡ priorities = take-all tasks priorities (omega arith) in
     let bs : take queues bounds ≡ bounds = take-all queues bounds (omega arith) in
-    simp (c, le-leb tasks (length priorities) (omega arith), le-leb queues (length bounds) (omega arith), ps, bs, s, and-true)
+    let ms : take regions marks ≡ marks = take-all regions marks (omega arith) in
+    let enough = le-leb tasks (length priorities) (omega arith) in
+    simp (c, enough, le-leb queues (length bounds) (omega arith), le-leb regions (length marks) (omega arith), ps, bs, ms, s, and-true)
 
 module _ (line a : List ℕ) (e : a ≡ padded numberRoom 0 (numbers line)) (p : plain line ≡ true)
     (long : (ltb (length line) 6 || eqb (length line % 2) 1) ≡ false) where
@@ -118,47 +129,57 @@ module _ (line a : List ℕ) (e : a ≡ padded numberRoom 0 (numbers line)) (p :
       right : countsInRange (getD (numbers line) 0 0) (getD (numbers line) 1 0) (getD (numbers line) 2 0) ≡ true
       right = rw (at 0, at 1, at 2) at (sym k ∙ not-false ok h)
 
-      pub counts-small : (getD a 0 0 ≤ taskRoom) × (getD a 2 0 ≤ queueRoom)
+      pub counts-small : (getD a 0 0 ≤ taskRoom) × (getD a 1 0 ≤ regionRoom) × (getD a 2 0 ≤ queueRoom)
       unfolding countsInRange
       counts-small =
           let f = given _ right in
           let tasks = leb-true (getD (numbers line) 0 0) taskRoom (f .1 .0) in
+          let regions = leb-true (getD (numbers line) 1 0) regionRoom (f .1 .1 .0) in
           let queues = leb-true (getD (numbers line) 2 0) queueRoom (f .1 .1 .1 .0) in
-          (omega (arith, at 0), omega (arith, at 2))
+          (omega (arith, at 0), omega (arith, at 1), omega (arith, at 2))
 
-      pub length-refuses : (length line ≡ 2 * (3 + getD a 0 0 + getD a 2 0) → ⊥) → firstRefused 21 ≡ firstDone line
+      pub length-refuses : (length line ≡ 2 * (3 + getD a 0 0 + getD a 2 0 + getD a 1 0) → ⊥) → firstRefused 21 ≡ firstDone line
       unfolding firstDone firstReasons
       length-refuses n =
           let tasks = at 0 in
+          let regions = at 1 in
           let queues = at 2 in
-          let other : length line ≡ 6 + 2 * (getD (numbers line) 0 0 + getD (numbers line) 2 0) → ⊥ = λ k. n (omega arith) in
-          simp (p, long, right, ne-eqb (length line) (6 + 2 * (getD (numbers line) 0 0 + getD (numbers line) 2 0)) other)
+          let other : length line ≡ digitsFor (tasksIn line) (regionsIn line) (queuesIn line) → ⊥ = λ k. n (omega arith) in
+          simp (p, long, right, ne-eqb (length line) (digitsFor (tasksIn line) (regionsIn line) (queuesIn line)) other)
 
-      pub accepted : length line ≡ 2 * (3 + getD a 0 0 + getD a 2 0)
-          → fresh (getD a 0 0) (getD a 1 0) (getD a 2 0) (part 3 (3 + getD a 0 0) a) (part (3 + getD a 0 0) (3 + getD a 0 0 + getD a 2 0) a)
+      pub accepted : length line ≡ 2 * (3 + getD a 0 0 + getD a 2 0 + getD a 1 0)
+          → fresh (getD a 0 0) (getD a 1 0) (getD a 2 0)
+          (part 3 (3 + getD a 0 0) a)
+          (part (3 + getD a 0 0) (3 + getD a 0 0 + getD a 2 0) a)
+          (part (3 + getD a 0 0 + getD a 2 0) (3 + getD a 0 0 + getD a 2 0 + getD a 1 0) a)
           ≡ firstDone line
       unfolding firstDone firstReasons firstRefused
       accepted k =
           let count = numbers-length line in
-          let tasks = getD (numbers line) 0 0 in
-          let queues = getD (numbers line) 2 0 in
-          let all-of : length (numbers line) ≡ 3 + tasks + queues = omega (arith, at 0, at 2) in
-          let fits : length line ≡ 6 + 2 * (tasks + queues) = omega (arith, at 0, at 2) in
-          let one : 3 + tasks - 3 ≡ tasks = omega arith in
-          let two : 3 + tasks + queues - (3 + tasks) ≡ queues = omega arith in
-          let priorities : part 3 (3 + tasks) (padded numberRoom 0 (numbers line)) ≡ prioritiesIn line =
-          part-padded numberRoom 3 (3 + tasks) (numbers line) (omega arith) (omega arith) ∙ ap (λ n. take n (drop 3 (numbers line))) one in
-          let bounds : part (3 + tasks) (3 + tasks + queues) (padded numberRoom 0 (numbers line)) ≡ boundsIn line =
-          part-padded numberRoom (3 + tasks) (3 + tasks + queues) (numbers line) (omega arith) (omega arith) ∙ ap (λ n. take n (drop (3 + tasks) (numbers line))) two in
-          let so-many : length (prioritiesIn line) ≡ tasks = length-take-le tasks (drop 3 (numbers line)) (rw length-drop (omega arith)) in
-          let so-long : length (boundsIn line) ≡ queues = length-take-le queues (drop (3 + tasks) (numbers line)) (rw length-drop (omega arith)) in
+          let tasks = tasksIn line in
+          let regions = regionsIn line in
+          let queues = queuesIn line in
+          let all-of : length (numbers line) ≡ 3 + tasks + queues + regions = omega (arith, at 0, at 1, at 2) in
+          let fits : length line ≡ digitsFor tasks regions queues = omega (arith, at 0, at 1, at 2) in
+          let priorities = part-of line a e 3 tasks (omega arith) in
+          let bounds = part-of line a e (3 + tasks) queues (omega arith) in
+          let marks = part-of line a e (3 + tasks + queues) regions (omega arith) in
           let small = every-take (λ n. ltb n priorityEnd) tasks (drop 3 (numbers line)) (every-drop (λ n. ltb n priorityEnd) 3 (numbers line) (numbers-small line)) in
-          let table = fresh-bounds tasks (getD (numbers line) 1 0) queues (prioritiesIn line) (boundsIn line) right so-many so-long small in
-          rw (at 0, at 1, at 2, e, priorities, bounds, table) (go (every boundInRange (boundsIn line)) refl fits right)
+          let table =
+          fresh-left tasks regions queues (prioritiesIn line) (boundsIn line) (marksIn line) right
+          (part-long line 3 tasks (omega arith))
+          (part-long line (3 + tasks) queues (omega arith))
+          (part-long line (3 + tasks + queues) regions (omega arith))
+          small in
+          rw (at 0, at 1, at 2, priorities, bounds, marks, table)
+          (go (every boundInRange (boundsIn line)) refl (every markInRange (marksIn line)) refl (eq-eqb (length line) (digitsFor tasks regions queues) fits))
         where
-          go : (b : Bool) → every boundInRange (boundsIn line) ≡ b → length line ≡ 6 + 2 * (tasksIn line + queuesIn line)
-              → countsInRange (tasksIn line) (regionsIn line) (queuesIn line) ≡ true
-              → cond (every boundInRange (boundsIn line)) (done (freshTable (tasksIn line) (regionsIn line) (queuesIn line) (prioritiesIn line) (boundsIn line)) 0 0 0 nobody) (refused zeroTable 20)
+          go : (b : Bool) → every boundInRange (boundsIn line) ≡ b → (m : Bool) → every markInRange (marksIn line) ≡ m
+              → eqb (length line) (digitsFor (tasksIn line) (regionsIn line) (queuesIn line)) ≡ true
+              → cond (every boundInRange (boundsIn line) && every markInRange (marksIn line))
+              (done (freshTable (tasksIn line) (regionsIn line) (queuesIn line) (prioritiesIn line) (boundsIn line) (marksIn line)) 0 0 0 nobody)
+              (refused zeroTable 20)
               ≡ firstDone line
-          go true d fits right = simp (p, long, right, eq-eqb (length line) (6 + 2 * (tasksIn line + queuesIn line)) fits, d)
-          go false d fits right = simp (p, long, right, eq-eqb (length line) (6 + 2 * (tasksIn line + queuesIn line)) fits, d)
+          go true d true n fits = simp (p, long, right, fits, d, n)
+          go true d false n fits = simp (p, long, right, fits, d, n)
+          go false d m n fits = simp (p, long, right, fits, d)

@@ -35,17 +35,26 @@ fn numbers_of(line: &[u8]) -> [u8; NUMBERS]
     out
 }
 
-// The fresh table of the configuration whose priorities stand at 3..from and whose bounds stand at from..to.
-fn fresh_from(tasks: u8, regions: u8, queues: u8, numbers: &[u8], from: usize, to: usize) -> Done
-    requires { ⌜ (3 ≤ from) × (from ≤ to) × (to ≤ length (now numbers)) ⌝ }
-    ensures { λ r. ⌜ r ≡ fresh tasks regions queues (part 3 from (now (numbers .entry))) (part from to (now (numbers .entry))) ⌝ }
+// The fresh table of the configuration whose priorities stand at 3..bounds, its bounds at bounds..marks and its marks at marks..end.
+fn fresh_from(
+    tasks: u8,
+    regions: u8,
+    queues: u8,
+    numbers: &[u8],
+    bounds: usize,
+    marks: usize,
+    end: usize,
+) -> Done
+    requires { ⌜ (3 ≤ bounds) × (bounds ≤ marks) × (marks ≤ end) × (end ≤ length (now numbers)) ⌝ }
+    ensures { λ r. ⌜ r ≡ fresh tasks regions queues (part 3 bounds (now (numbers .entry))) (part bounds marks (now (numbers .entry))) (part marks end (now (numbers .entry))) ⌝ }
 {
     fresh(
         tasks,
         regions,
         queues,
-        &numbers[3..from],
-        &numbers[from..to],
+        &numbers[3..bounds],
+        &numbers[bounds..marks],
+        &numbers[marks..end],
     )
 }
 
@@ -62,12 +71,13 @@ fn configured(line: &[u8]) -> Done
     if !counts_right(tasks, regions, queues) {
         return first_refused(20);
     }
-    let from = 3 + (tasks as usize);
-    let to = from + (queues as usize);
-    if line.len() != 2 * to {
+    let bounds = 3 + (tasks as usize);
+    let marks = bounds + (queues as usize);
+    let end = marks + (regions as usize);
+    if line.len() != 2 * end {
         return first_refused(21);
     }
-    fresh_from(tasks, regions, queues, &numbers, from, to)
+    fresh_from(tasks, regions, queues, &numbers, bounds, marks, end)
 }
 
 // What a first line does, by its characters.

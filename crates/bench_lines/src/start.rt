@@ -19,7 +19,7 @@ pub struct Standing {
 fn zeros() -> Table
     ensures { λ r. ⌜ r ≡ zeroTable ⌝ }
 {
-    let d = fresh(0, 0, 0, b"", b"");
+    let d = fresh(0, 0, 0, b"", b"", b"");
     d.table
 }
 

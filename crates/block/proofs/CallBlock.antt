@@ -12,13 +12,14 @@ use Rattle.rules.specs.declared.Done.{Done}
 use Rattle.rules.specs.Numbers.{storeSize, SEND, RETRIEVE}
 use Rattle.rules.specs.Words.{isZero, every}
 use Rattle.rules.specs.Events.{met}
-use Rattle.rules.specs.Tables.{taskOf}
+use Rattle.rules.specs.Regions.{heldByOther}
+use Rattle.rules.specs.Tables.{taskOf, regionOf}
 use Rattle.rules.specs.Validity.{valid}
 use Rattle.rules.specs.Answers.{refused}
 use Rattle.rules.specs.Refusals.{reasons, refusal}
-use Rattle.rules.specs.Effects.{effect}
+use Rattle.rules.specs.Effects.{enter, handsOn, exit, effect}
 use Rattle.rules.specs.Step.{step}
-use Rattle.rules.proofs.Effects.{each-effect}
+use Rattle.rules.proofs.Effects.{each-effect, either-effect}
 use Rattle.calls.proofs.Together.{step-contents}
 use Rattle.tables.specs.declared.front.FrontDone.{FrontDone}
 use Rattle.tables.specs.Fronts.{whole, frontOf, frontDone}
@@ -43,7 +44,7 @@ step-damaged t c d = simp d
 effect-low : (t : Table) (c : Call) → effect t c .status < 10
 effect-low t c =
     each-effect t c (λ n e. e .status < 10)
-    (low, (low, (low, (low, (waits (met (c .b) (c .a) (taskOf t (c .caller) .arrived)), (low, (low, (low, (low, (low, (low, (low, (low, tt)))))))))))))
+    (low, (low, (low, (low, (waits (met (c .b) (c .a) (taskOf t (c .caller) .arrived)), (low, (suspends, (leaves, (low, (low, (low, (low, (low, tt)))))))))))))
     (λ n. low)
   where
     low : 0 < 10
@@ -52,6 +53,12 @@ effect-low t c =
     waits : (b : Bool) → cond b 0 1 < 10
     waits true = omega arith
     waits false = omega arith
+
+    suspends : enter t c .status < 10
+    suspends = either-effect (λ e. e .status < 10) (heldByOther (c .caller) (regionOf t (c .a))) (omega arith) low
+
+    leaves : exit t c .status < 10
+    leaves = either-effect (λ e. e .status < 10) (handsOn (c .a) t) low low
 
 -- what gets a status from 10 on leaves the table
 step-left : (t : Table) (c : Call) → 10 ≤ step t c .answer .status → step t c .table ≡ t

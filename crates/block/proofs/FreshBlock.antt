@@ -11,15 +11,15 @@ use Rattle.layout.specs.Layout.{blockSize, packed}
 use Rattle.layout.specs.Calls.{Stored, notATableNumber, freshBlock}
 use Rattle.layout.proofs.Tables.{ten-is}
 
-module _ (block : List ℕ) (tasks regions queues : ℕ) (priorities bounds : List ℕ) where
+module _ (block : List ℕ) (tasks regions queues : ℕ) (priorities bounds marks : List ℕ) where
   abbrev made : Stored
-  made = freshBlock block tasks regions queues priorities bounds
+  made = freshBlock block tasks regions queues priorities bounds marks
 
   pub fresh-refused : (length block ≡ blockSize → ⊥) → (notATableNumber ≡ made .answer) × (block ≡ made .block)
   unfolding freshBlock
   fresh-refused n = rw (ne-eqb (length block) blockSize n) (ten-is, refl)
 
-  pub fresh-made : (d : Done) (after : List ℕ) (n : ℕ) → length block ≡ blockSize → d ≡ fresh tasks regions queues priorities bounds
+  pub fresh-made : (d : Done) (after : List ℕ) (n : ℕ) → length block ≡ blockSize → d ≡ fresh tasks regions queues priorities bounds marks
       → after ≡ packed (d .table) → n ≡ answerNumber (d .answer) → (n ≡ made .answer) × (after ≡ made .block)
   unfolding freshBlock
   fresh-made d after n size e p a =

@@ -16,14 +16,15 @@ pub extern "C" fn tankwesho_fresh<'a>(
     queues: u8,
     priorities: &'a [u8],
     bounds: &'a [u8],
+    marks: &'a [u8],
 ) -> u64
-    ensures answer { λ r. ⌜ r ≡ freshBlock (now (block .entry)) tasks regions queues (now (priorities .entry)) (now (bounds .entry)) .answer ⌝ }
-    ensures stored { λ _. ⌜ now (block .exit) ≡ freshBlock (now (block .entry)) tasks regions queues (now (priorities .entry)) (now (bounds .entry)) .block ⌝ }
+    ensures answer { λ r. ⌜ r ≡ freshBlock (now (block .entry)) tasks regions queues (now (priorities .entry)) (now (bounds .entry)) (now (marks .entry)) .answer ⌝ }
+    ensures stored { λ _. ⌜ now (block .exit) ≡ freshBlock (now (block .entry)) tasks regions queues (now (priorities .entry)) (now (bounds .entry)) (now (marks .entry)) .block ⌝ }
 {
     if block.len() != SIZE {
         return NOT_A_TABLE;
     }
-    let d = fresh(tasks, regions, queues, priorities, bounds);
+    let d = fresh(tasks, regions, queues, priorities, bounds, marks);
     pack(d.table, block);
     answer_number(d.answer)
 }

@@ -13,7 +13,9 @@ use Rattle.rules.specs.declared.Answer.{Answer}
 use Rattle.rules.specs.Numbers.{nobody}
 use Rattle.rules.specs.Words.{isZero, all, every, Reason, first}
 use Rattle.rules.specs.Events.{met}
+use Rattle.rules.specs.Tasks.{suspended}
 use Rattle.rules.specs.Election.{readyAt, displacedBy}
+use Rattle.rules.specs.Urgency.{stateWith}
 use Rattle.rules.specs.Tables.{taskOf, boundOf, queueOf, settled}
 use Rattle.rules.specs.Answers.{reported, replied}
 use Rattle.rules.specs.Validity.{valid}
@@ -133,6 +135,14 @@ module _ (t : Table) (v : valid t ≡ true) (h : elementsInRange t ≡ true) whe
   column-small : (ns : List ℕ) (i : ℕ) → every (fits 1) ns ≡ true → getD ns i 0 < wordEnd
   column-small ns i e = let l = ltb-true (getD ns i 0) byteEnd (every-at (fits 1) ns i 0 e refl) in omega arith
 
+  -- a state as stored, or 3
+  state-small : (i : ℕ) → stateWith (getD (t .awaits) i 0) (getD (t .state) i 0) < wordEnd
+  state-small i = go (isZero (getD (t .awaits) i 0))
+    where
+      go : (b : Bool) → cond b (getD (t .state) i 0) suspended < wordEnd
+      go true = column-small (t .state) i (fit .state)
+      go false = omega arith
+
   query-fits : (number caller a b : ℕ) → answerInRange (query t number caller a b) ≡ true
   unfolding query arrivedQuery emptyQuery fullQuery priorityQuery stateQuery
   query-fits number caller a b =
@@ -141,16 +151,16 @@ module _ (t : Table) (v : valid t ≡ true) (h : elementsInRange t ≡ true) whe
       (every-cons answerInRange _ _ (reply-fits _ _ (object-low (t .queues) a) (oneIf-small (isZero (length (queueOf t a)))))
       (every-cons answerInRange _ _ (reply-fits _ _ (object-low (t .queues) a) (oneIf-small (leb (boundOf t a) (length (queueOf t a)))))
       (every-cons answerInRange _ _ (reply-fits _ _ (object-low (t .tasks) a) (column-small (t .priority) a (fit .priority)))
-      (every-cons answerInRange _ _ (reply-fits _ _ (object-low (t .tasks) a) (column-small (t .state) a (fit .state)))
+      (every-cons answerInRange _ _ (reply-fits _ _ (object-low (t .tasks) a) (state-small a))
       (every-nil answerInRange))))))
       (reply-fits 11 0 (omega arith) (omega arith))
 
-fresh-fits : (tasks regions queues : ℕ) (priorities bounds : List ℕ) → answerInRange (fresh tasks regions queues priorities bounds .answer) ≡ true
+fresh-fits : (tasks regions queues : ℕ) (priorities bounds marks : List ℕ) → answerInRange (fresh tasks regions queues priorities bounds marks .answer) ≡ true
 unfolding fresh freshTable answerInRange all
-fresh-fits tasks regions queues priorities bounds = go (configurationInRange tasks regions queues priorities bounds) refl
+fresh-fits tasks regions queues priorities bounds marks = go (configurationInRange tasks regions queues priorities bounds marks) refl
   where
-    go : (b : Bool) → configurationInRange tasks regions queues priorities bounds ≡ b
-        → answerInRange (fresh tasks regions queues priorities bounds .answer) ≡ true
+    go : (b : Bool) → configurationInRange tasks regions queues priorities bounds marks ≡ b
+        → answerInRange (fresh tasks regions queues priorities bounds marks .answer) ≡ true
     go true e = rw e refl
     go false e = rw e refl
 
@@ -183,16 +193,16 @@ module _ (block : List ℕ) (small : areBytes block ≡ true) where
           rw e (answer-read-back _ (query-fits (unpacked block) (u .right) (u .elements) number caller a b))
       go false e = rw e (answer-read-back notATable damaged-fits)
 
-fresh-read : (block : List ℕ) (tasks regions queues : ℕ) (priorities bounds : List ℕ)
-    → answerIn (freshBlock block tasks regions queues priorities bounds .answer)
-    ≡ cond (eqb (length block) blockSize) (fresh tasks regions queues priorities bounds .answer) notATable
+fresh-read : (block : List ℕ) (tasks regions queues : ℕ) (priorities bounds marks : List ℕ)
+    → answerIn (freshBlock block tasks regions queues priorities bounds marks .answer)
+    ≡ cond (eqb (length block) blockSize) (fresh tasks regions queues priorities bounds marks .answer) notATable
 unfolding freshBlock
-fresh-read block tasks regions queues priorities bounds = go (eqb (length block) blockSize) refl
+fresh-read block tasks regions queues priorities bounds marks = go (eqb (length block) blockSize) refl
   where
     go : (x : Bool) → eqb (length block) blockSize ≡ x
-        → answerIn (freshBlock block tasks regions queues priorities bounds .answer)
-        ≡ cond (eqb (length block) blockSize) (fresh tasks regions queues priorities bounds .answer) notATable
-    go true e = rw e (answer-read-back _ (fresh-fits tasks regions queues priorities bounds))
+        → answerIn (freshBlock block tasks regions queues priorities bounds marks .answer)
+        ≡ cond (eqb (length block) blockSize) (fresh tasks regions queues priorities bounds marks .answer) notATable
+    go true e = rw e (answer-read-back _ (fresh-fits tasks regions queues priorities bounds marks))
     go false e = rw e (answer-read-back notATable damaged-fits)
 
 pub answers-read : AnswersRead

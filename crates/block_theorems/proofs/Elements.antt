@@ -12,17 +12,18 @@ use Rattle.rules.specs.declared.Call.{Call}
 use Rattle.rules.specs.Numbers.{criterionEnd, SEND}
 use Rattle.rules.specs.Words.{isZero, every}
 use Rattle.rules.specs.Events.{met}
+use Rattle.rules.specs.Regions.{heldByOther}
 use Rattle.rules.specs.Queues.{noPair, pairs, elements, criteria, front, place, without}
 use Rattle.rules.specs.Timers.{later}
-use Rattle.rules.specs.Tables.{taskOf, lengthOf, queueOf}
+use Rattle.rules.specs.Tables.{taskOf, regionOf, lengthOf, queueOf}
 use Rattle.rules.specs.Validity.{valid, criterionInRange, criteriaInRange}
 use Rattle.rules.specs.Refusals.{refusal}
-use Rattle.rules.specs.Effects.{Effect, wait, send, retrieve, tick, ticked, effect}
+use Rattle.rules.specs.Effects.{Effect, wait, enter, handsOn, exit, send, retrieve, tick, ticked, effect}
 use Rattle.rules.specs.Step.{step}
 use Rattle.rules.proofs.Lists.{every-head, every-tail, every-cons, every-nil, every-append, every-take, every-drop, every-at, map-append, map-without}
 use Rattle.rules.proofs.Store.{every-laid}
 use Rattle.rules.proofs.Validity.{parts-of}
-use Rattle.rules.proofs.Effects.{each-effect, ringing-same}
+use Rattle.rules.proofs.Effects.{each-effect, either-effect, ringing-same}
 use Rattle.block_theorems.specs.Ranges.{byteEnd, wordEnd, elementsInRange}
 
 -- ---- a queue's list
@@ -71,10 +72,17 @@ module _ (t : Table) (h : elementsInRange t ≡ true) where
     unfolding ticked
     rung = rw (ringing-same (λ u. u .element) (λ i g u. refl) (later (t .ticks) 1) (t .timers) t) h
 
+    -- ENTER and EXIT do one of two things each, and neither touches an element
+    entered : elementsInRange (enter t c .table) ≡ true
+    entered = either-effect (λ e. elementsInRange (e .table) ≡ true) (heldByOther (c .caller) (regionOf t (c .a))) h h
+
+    left : elementsInRange (exit t c .table) ≡ true
+    left = either-effect (λ e. elementsInRange (e .table) ≡ true) (handsOn (c .a) t) h h
+
     effect-elements : (c .operation ≡ SEND → c .b < wordEnd) → elementsInRange (effect t c .table) ≡ true
     effect-elements =
         each-effect t c (λ n e. (n ≡ SEND → c .b < wordEnd) → elementsInRange (e .table) ≡ true)
-        (λ u. h, (λ u. h, (λ u. h, (λ u. h, (λ u. h, (λ u. h, (λ u. h, (λ u. h, (λ u. sent (u refl), (λ u. taken, (λ u. h, (λ u. h, (λ u. rung, tt)))))))))))))
+        (λ u. h, (λ u. h, (λ u. h, (λ u. h, (λ u. h, (λ u. h, (λ u. entered, (λ u. left, (λ u. sent (u refl), (λ u. taken, (λ u. h, (λ u. h, (λ u. rung, tt)))))))))))))
         (λ n u. h)
 
     pub elements-kept : (c .operation ≡ SEND → c .b < wordEnd) → elementsInRange (step t c .table) ≡ true
@@ -112,7 +120,7 @@ module _ (t : Table) (h : elementsInRange t ≡ true) where
     pub effect-small : Small (effect t c)
     effect-small =
         each-effect t c (λ n e. Small e)
-        (zeros, (zeros, (zeros, (zeros, (waits, (zeros, (zeros, (zeros, (zeros, (gives, (zeros, (zeros, (zeros, tt)))))))))))))
+        (zeros, (zeros, (zeros, (zeros, (waits, (zeros, (suspends, (leaves, (zeros, (gives, (zeros, (zeros, (zeros, tt)))))))))))))
         (λ n. zeros)
       where
         zeros : (0 < 2) × (0 < wordEnd) × (0 < byteEnd)
@@ -124,6 +132,12 @@ module _ (t : Table) (h : elementsInRange t ≡ true) where
 
         waits : Small (wait t c)
         waits = (one (met (c .b) (c .a) (taskOf t (c .caller) .arrived)), omega arith, omega arith)
+
+        suspends : Small (enter t c)
+        suspends = either-effect Small (heldByOther (c .caller) (regionOf t (c .a))) (omega arith) zeros
+
+        leaves : Small (exit t c)
+        leaves = either-effect Small (handsOn (c .a) t) zeros zeros
 
         gives : Small (retrieve t c)
         gives = let l = given-criterion in (omega arith, given-element, omega arith)

@@ -7,13 +7,12 @@ use mathlib.Core.List.{List, [], _∷_}
 use native.Mathlib.Omega.{arith}
 use native.Mathlib.Nat.{one-le-pow}
 use lib.Dec.{ltb, eqb, leb}
-use lib.ListN.{getD, length}
-use borrow.Author.Tests.{eqb-true, eqb-false, ltb-true, leb-true, lt-ltb}
+use lib.ListN.{getD, length, List·getD-eq-default}
+use borrow.Author.Tests.{eqb-true, eqb-false, ltb-true, ltb-false, leb-true, lt-ltb}
 use Rattle.rules.specs.declared.Timer.{Timer}
 use Rattle.rules.specs.declared.Table.{Table}
 use Rattle.rules.specs.Numbers.{taskRoom, regionRoom, mostEntries, queueRoom, places, storeSize, criterionEnd, eventEnd, timerRoom, tickEnd, nobody}
 use Rattle.rules.specs.Words.{isZero, every}
-use Rattle.rules.specs.Regions.{held}
 use Rattle.rules.specs.Timers.{isArmed}
 use Rattle.rules.specs.Tables.{boundOf, lengthOf}
 use Rattle.rules.specs.Validity.{shaped, countsInRange, boundInRange, criterionInRange, criteriaInRange, stateRight, timerRight, timersRight}
@@ -21,10 +20,11 @@ use Rattle.rules.proofs.Bools.{given, shown, and-left, and-right, or-cases}
 use Rattle.rules.proofs.Lists.{every-cons, every-nil}
 use Rattle.rules.proofs.Counts.{below-at}
 use Rattle.theorems.proofs.ArmedTimers.{every-kept}
-use Rattle.rules.specs.Checks.{rowZero, rowFits, tasksRight, regionFits, regionsRight, boundFits, queueRight, queuesRight}
+use Rattle.theorems.proofs.Lines.{lined}
+use Rattle.rules.specs.Checks.{rowZero, rowFits, tasksRight, boundFits, queueRight, queuesRight}
 use Rattle.rules.proofs.Rules.{Parts}
 use Rattle.rules.proofs.ValidTasks.{row-given, elected-below}
-use Rattle.rules.proofs.ValidRegions.{held-fits, entries-fit}
+use Rattle.rules.proofs.ValidRegions.{mark-in-range, entry-fits, entries-fit}
 use Rattle.rules.proofs.Entries.{entries-most}
 use Rattle.packing.specs.Bytes.{halfWidth, wordWidth}
 use Rattle.packing.proofs.RoundTrips.{fits, timerFits}
@@ -37,8 +37,10 @@ pub record Sized (t : Table) : Type 0 where
   pub arrived : length (t .arrived) ≡ taskRoom
   pub list : length (t .list) ≡ taskRoom
   pub operator : length (t .operator) ≡ taskRoom
+  pub awaits : length (t .awaits) ≡ taskRoom
   pub holder : length (t .holder) ≡ regionRoom
   pub entries : length (t .entries) ≡ regionRoom
+  pub opened : length (t .opened) ≡ regionRoom
   pub bound : length (t .bound) ≡ queueRoom
   pub lengths : length (t .length) ≡ queueRoom
   pub element : length (t .element) ≡ storeSize
@@ -56,8 +58,10 @@ pub record Fitting (t : Table) : Type 0 where
   pub arrived : every (fits 2) (t .arrived) ≡ true
   pub list : every (fits 2) (t .list) ≡ true
   pub operator : every (fits 1) (t .operator) ≡ true
+  pub awaits : every (fits 1) (t .awaits) ≡ true
   pub holder : every (fits 1) (t .holder) ≡ true
   pub entries : every (fits 1) (t .entries) ≡ true
+  pub opened : every (fits 1) (t .opened) ≡ true
   pub bound : every (fits 1) (t .bound) ≡ true
   pub lengths : every (fits 1) (t .length) ≡ true
   pub element : every (fits wordWidth) (t .element) ≡ true
@@ -82,15 +86,17 @@ zero-fits width n z = let e = eqb-true n 0 z in smaller width n 0 (omega arith) 
 pub sized : (t : Table) → shaped t ≡ true → Sized t
 unfolding shaped
 sized t h =
-    let (a, (b, (c, (d, (e, (f, (n, (g, (i, (j, (k, (l, u)))))))))))) = given _ h in
+    let (a, (b, (c, (d, (e, (f, (n, (g, (i, (j, (k, (l, (w, (o, u)))))))))))))) = given _ h in
     record {
       priority = eqb-true _ _ a;
       state = eqb-true _ _ b;
       arrived = eqb-true _ _ c;
       list = eqb-true _ _ d;
       operator = eqb-true _ _ e;
+      awaits = eqb-true _ _ w;
       holder = eqb-true _ _ f;
       entries = eqb-true _ _ n;
+      opened = eqb-true _ _ o;
       bound = eqb-true _ _ g;
       lengths = eqb-true _ _ i;
       element = eqb-true _ _ j;
@@ -158,16 +164,31 @@ module _ (t : Table) (p : Parts t) where
       go false e = smaller 1 (t .elected) taskRoom (let l = elected-below t p (eqb-false _ _ e) in let m = counts .0 in omega arith) (omega arith)
 
   holder-fits : (i : ℕ) → i < regionRoom → fits 1 (getD (t .holder) i 0) ≡ true
-  unfolding regionsRight regionFits
   holder-fits i k =
-      let h = getD (t .holder) i 0 in
-      ⊎-elim (λ z. rw (eqb-true h 0 z) refl)
-      (λ w.
-      let e : h ≡ held (t .holder) = eqb-true h _ (and-right (ltb i (t .regions)) _ w) in
-      let l = leb-true (held (t .holder)) (t .tasks) (held-fits t p) in
+      let l = leb-true (getD (t .holder) i 0) (t .tasks) (entry-fits t p i k) in
       let m = counts .0 in
-      smaller 1 h taskRoom (omega arith) (omega arith))
-      (or-cases (isZero h) _ (below-at _ regionRoom i (p .regions) k))
+      smaller 1 (getD (t .holder) i 0) taskRoom (omega arith) (omega arith)
+
+  mark-small : (i : ℕ) → i < regionRoom → fits 1 (getD (t .opened) i 0) ≡ true
+  mark-small i k = smaller 1 (getD (t .opened) i 0) 1 (leb-true _ 1 (mark-in-range t p i k)) (omega arith)
+
+  -- what a task waits for has a holder, so that it is one of the regions
+  awaited-room : (i r : ℕ) → i < taskRoom → getD (t .awaits) i 0 ≡ suc r → r < regionRoom
+  awaited-room i r k e = go (ltb r regionRoom) refl
+    where
+      go : (b : Bool) → ltb r regionRoom ≡ b → r < regionRoom
+      go true f = ltb-true r regionRoom f
+      go false f =
+          let past = ltb-false r regionRoom f in
+          let free : getD (t .holder) r 0 ≡ 0 = List·getD-eq-default (t .holder) 0 (rw (sized t (p .shape) .holder) past) in
+          absurd (lined t p i r k e .occupied free)
+
+  await-fits : (i : ℕ) → i < taskRoom → fits 1 (getD (t .awaits) i 0) ≡ true
+  await-fits i k = go (getD (t .awaits) i 0) refl
+    where
+      go : (entry : ℕ) → getD (t .awaits) i 0 ≡ entry → fits 1 entry ≡ true
+      go zero e = refl
+      go (suc r) e = smaller 1 (suc r) regionRoom (awaited-room i r k e) (omega arith)
 
   counted-fits : (i : ℕ) → i < regionRoom → fits 1 (getD (t .entries) i 0) ≡ true
   counted-fits i k =
@@ -229,8 +250,10 @@ module _ (t : Table) (p : Parts t) where
         arrived = every-by (fits 2) (t .arrived) taskRoom (s .arrived) (λ i k. row i k .arrived-fits);
         list = every-by (fits 2) (t .list) taskRoom (s .list) (λ i k. row i k .list-fits);
         operator = every-by (fits 1) (t .operator) taskRoom (s .operator) (λ i k. row i k .operator-fits);
+        awaits = every-by (fits 1) (t .awaits) taskRoom (s .awaits) await-fits;
         holder = every-by (fits 1) (t .holder) regionRoom (s .holder) holder-fits;
         entries = every-by (fits 1) (t .entries) regionRoom (s .entries) counted-fits;
+        opened = every-by (fits 1) (t .opened) regionRoom (s .opened) mark-small;
         bound = every-by (fits 1) (t .bound) queueRoom (s .bound) (λ q k. smaller 1 _ places (bounds q k .0) (omega arith));
         lengths = every-by (fits 1) (t .length) queueRoom (s .lengths) (λ q k. smaller 1 _ places (bounds q k .1) (omega arith));
         element = e;

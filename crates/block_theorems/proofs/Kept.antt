@@ -93,30 +93,30 @@ zeros-packed : packed zeroTable ≡ replicate blockSize 0
 unfolding packed bytes spread timersBytes timerBytes zeroTable
 zeros-packed = refl
 
-module _ (block : List ℕ) (tasks regions queues : ℕ) (priorities bounds : List ℕ) where
+module _ (block : List ℕ) (tasks regions queues : ℕ) (priorities bounds marks : List ℕ) where
   abbrev table : Table
-  table = freshTable tasks regions queues priorities bounds
+  table = freshTable tasks regions queues priorities bounds marks
 
   abbrev inRange : Bool
-  inRange = configurationInRange tasks regions queues priorities bounds
+  inRange = configurationInRange tasks regions queues priorities bounds marks
 
   abbrev MadeBy : Stored → Type 0
-  MadeBy = Made block tasks regions queues priorities bounds
+  MadeBy = Made block tasks regions queues priorities bounds marks
 
   -- by size and configuration
-  fresh-stored : freshBlock block tasks regions queues priorities bounds
+  fresh-stored : freshBlock block tasks regions queues priorities bounds marks
       ≡ cond (eqb (length block) blockSize) (cond inRange (stored (done table 0 0 0 nobody)) (stored (refused zeroTable 20))) (untouched block)
   unfolding freshBlock fresh
   fresh-stored = go inRange refl
     where
-      go : (b : Bool) → inRange ≡ b → freshBlock block tasks regions queues priorities bounds
+      go : (b : Bool) → inRange ≡ b → freshBlock block tasks regions queues priorities bounds marks
           ≡ cond (eqb (length block) blockSize) (cond inRange (stored (done table 0 0 0 nobody)) (stored (refused zeroTable 20))) (untouched block)
       go true e = simp e
       go false e = simp e
 
   table-packs : inRange ≡ true → Packs table
   unfolding freshTable
-  table-packs e = pack-then-unpack table (fresh-valid tasks regions queues priorities bounds e) (every-replicate isWord storeSize 0 refl)
+  table-packs e = pack-then-unpack table (fresh-valid tasks regions queues priorities bounds marks e) (every-replicate isWord storeSize 0 refl)
 
   made-fresh : inRange ≡ true → MadeBy (stored (done table 0 0 0 nobody))
   unfolding answerNumber freshTable
@@ -136,7 +136,7 @@ module _ (block : List ℕ) (tasks regions queues : ℕ) (priorities bounds : Li
   unfolding answerNumber
   made-none size = record { fresh = λ z. absurd (omega arith); zeros = λ z. absurd (omega arith); other = λ n m. (size, refl, refl) }
 
-  made : MadeBy (freshBlock block tasks regions queues priorities bounds)
+  made : MadeBy (freshBlock block tasks regions queues priorities bounds marks)
   made = subst MadeBy (sym fresh-stored) (go (eqb (length block) blockSize) inRange refl refl)
     where
       go : (b d : Bool) → eqb (length block) blockSize ≡ b → inRange ≡ d → MadeBy

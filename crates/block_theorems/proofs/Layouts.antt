@@ -16,7 +16,7 @@ use Rattle.rules.proofs.Counts.{below-all}
 use Rattle.packing.specs.Bytes.{halfWidth, wordWidth, bytes, spread}
 use Rattle.packing.specs.Timers.{timerWidth, unusedPlace, timersIn, timersBytes}
 use Rattle.packing.proofs.RoundTrips.{fits, bytes-length, bytes-small, spread-length, spread-small, numbers-spread, timers-length, timers-small, timers-read, timers-unused}
-use Rattle.layout.specs.Layout.{priorityPlace, statePlace, arrivedPlace, listPlace, operatorPlace, holderPlace, entriesPlace, boundPlace, lengthPlace, elementPlace, criterionPlace, ticksPlace, timersPlace, blockSize, part, unpacked, packed, unusedZero}
+use Rattle.layout.specs.Layout.{priorityPlace, statePlace, arrivedPlace, listPlace, operatorPlace, awaitsPlace, holderPlace, entriesPlace, openedPlace, boundPlace, lengthPlace, elementPlace, criterionPlace, ticksPlace, timersPlace, blockSize, part, unpacked, packed, unusedZero}
 use Rattle.layout.proofs.Back.{bytes-back as packed-unpacked}
 use Rattle.block_theorems.specs.Ranges.{areBytes}
 use Rattle.block_theorems.specs.Packed.{BytesBack}
@@ -54,8 +54,10 @@ module _ (t : Table) where
       ∷ spread halfWidth (t .arrived)
       ∷ spread halfWidth (t .list)
       ∷ spread 1 (t .operator)
+      ∷ spread 1 (t .awaits)
       ∷ spread 1 (t .holder)
       ∷ spread 1 (t .entries)
+      ∷ spread 1 (t .opened)
       ∷ spread 1 (t .bound)
       ∷ spread 1 (t .length)
       ∷ spread wordWidth (t .element)
@@ -84,6 +86,8 @@ sizes =
     ∷ halfWidth * taskRoom
     ∷ halfWidth * taskRoom
     ∷ taskRoom
+    ∷ taskRoom
+    ∷ regionRoom
     ∷ regionRoom
     ∷ regionRoom
     ∷ queueRoom
@@ -106,8 +110,10 @@ module _ (t : Table) (s : Sized t) where
         s .arrived,
         s .list,
         s .operator,
+        s .awaits,
         s .holder,
         s .entries,
+        s .opened,
         s .bound,
         s .lengths,
         s .element,
@@ -144,8 +150,10 @@ same-table : (u t : Table)
     → u .arrived ≡ t .arrived
     → u .list ≡ t .list
     → u .operator ≡ t .operator
+    → u .awaits ≡ t .awaits
     → u .holder ≡ t .holder
     → u .entries ≡ t .entries
+    → u .opened ≡ t .opened
     → u .bound ≡ t .bound
     → u .length ≡ t .length
     → u .element ≡ t .element
@@ -153,7 +161,7 @@ same-table : (u t : Table)
     → u .ticks ≡ t .ticks
     → u .timers ≡ t .timers
     → u ≡ t
-same-table u t a b c d e f g h i j q k l m n o p =
+same-table u t a b c d e f g h i w j q v k l m n o p =
     λ x.
     record {
       tasks = a x;
@@ -165,8 +173,10 @@ same-table u t a b c d e f g h i j q k l m n o p =
       arrived = g x;
       list = h x;
       operator = i x;
+      awaits = w x;
       holder = j x;
       entries = q x;
+      opened = v x;
       bound = k x;
       length = l x;
       element = m x;
@@ -178,13 +188,13 @@ same-table u t a b c d e f g h i j q k l m n o p =
 module _ (t : Table) (s : Sized t) (f : Fitting t) where
   ticks-read : getD (part ticksPlace wordWidth 1 (packed t)) 0 0 ≡ t .ticks
   unfolding bytes spread
-  ticks-read = ap (λ ns. getD ns 0 0) (column-read wordWidth 1 ticksPlace (packed t) (t .ticks ∷ []) _ (from t s 15) refl ticks-fit)
+  ticks-read = ap (λ ns. getD ns 0 0) (column-read wordWidth 1 ticksPlace (packed t) (t .ticks ∷ []) _ (from t s 17) refl ticks-fit)
     where
       ticks-fit : every (fits wordWidth) (t .ticks ∷ []) ≡ true
       ticks-fit = every-cons (fits wordWidth) (t .ticks) [] (f .ticks) (every-nil (fits wordWidth))
 
   timers-back : timersIn timerRoom (drop timersPlace (packed t)) ≡ t .timers
-  timers-back = rw (from t s 16, ← s .timers) (timers-read (t .timers) [] (f .timers))
+  timers-back = rw (from t s 18, ← s .timers) (timers-read (t .timers) [] (f .timers))
 
   pub packed-back : unpacked (packed t) ≡ t
   unfolding unpacked
@@ -199,12 +209,14 @@ module _ (t : Table) (s : Sized t) (f : Fitting t) where
       (column-read halfWidth taskRoom arrivedPlace (packed t) _ _ (from t s 6) (s .arrived) (f .arrived))
       (column-read halfWidth taskRoom listPlace (packed t) _ _ (from t s 7) (s .list) (f .list))
       (column-read 1 taskRoom operatorPlace (packed t) _ _ (from t s 8) (s .operator) (f .operator))
-      (column-read 1 regionRoom holderPlace (packed t) _ _ (from t s 9) (s .holder) (f .holder))
-      (column-read 1 regionRoom entriesPlace (packed t) _ _ (from t s 10) (s .entries) (f .entries))
-      (column-read 1 queueRoom boundPlace (packed t) _ _ (from t s 11) (s .bound) (f .bound))
-      (column-read 1 queueRoom lengthPlace (packed t) _ _ (from t s 12) (s .lengths) (f .lengths))
-      (column-read wordWidth storeSize elementPlace (packed t) _ _ (from t s 13) (s .element) (f .element))
-      (column-read 1 storeSize criterionPlace (packed t) _ _ (from t s 14) (s .criterion) (f .criterion))
+      (column-read 1 taskRoom awaitsPlace (packed t) _ _ (from t s 9) (s .awaits) (f .awaits))
+      (column-read 1 regionRoom holderPlace (packed t) _ _ (from t s 10) (s .holder) (f .holder))
+      (column-read 1 regionRoom entriesPlace (packed t) _ _ (from t s 11) (s .entries) (f .entries))
+      (column-read 1 regionRoom openedPlace (packed t) _ _ (from t s 12) (s .opened) (f .opened))
+      (column-read 1 queueRoom boundPlace (packed t) _ _ (from t s 13) (s .bound) (f .bound))
+      (column-read 1 queueRoom lengthPlace (packed t) _ _ (from t s 14) (s .lengths) (f .lengths))
+      (column-read wordWidth storeSize elementPlace (packed t) _ _ (from t s 15) (s .element) (f .element))
+      (column-read 1 storeSize criterionPlace (packed t) _ _ (from t s 16) (s .criterion) (f .criterion))
       ticks-read
       timers-back
 
@@ -217,7 +229,7 @@ module _ (t : Table) (s : Sized t) (f : Fitting t) where
           let place : timersPlace + (timerWidth * i + unusedPlace) ≡ timersPlace + timerWidth * i + unusedPlace = omega arith in
           ap (λ j. getD (packed t) j 0) (sym place)
           ∙ sym (getD-drop timersPlace (packed t) (timerWidth * i + unusedPlace) 0)
-          ∙ ap (λ bs. getD bs (timerWidth * i + unusedPlace) 0) (from t s 16)
+          ∙ ap (λ bs. getD bs (timerWidth * i + unusedPlace) 0) (from t s 18)
           ∙ timers-unused (t .timers) [] i (rw (s .timers) k)
 
 -- ---- unpacked, then packed: the law that the exported calls are proved by

@@ -48,6 +48,6 @@ pub record AnswersRead : Type 0 where
       → answerIn (callBlock block c .answer) ≡ cond (isTable block) (step (unpacked block) c .answer) notATable
   pub query : (block : List ℕ) (number caller a b : ℕ) → areBytes block ≡ true
       → answerIn (queryBlock block number caller a b) ≡ cond (isTable block) (query (unpacked block) number caller a b) notATable
-  pub fresh-block : (block : List ℕ) (tasks regions queues : ℕ) (priorities bounds : List ℕ)
-      → answerIn (freshBlock block tasks regions queues priorities bounds .answer)
-      ≡ cond (eqb (length block) blockSize) (fresh tasks regions queues priorities bounds .answer) notATable
+  pub fresh-block : (block : List ℕ) (tasks regions queues : ℕ) (priorities bounds marks : List ℕ)
+      → answerIn (freshBlock block tasks regions queues priorities bounds marks .answer)
+      ≡ cond (eqb (length block) blockSize) (fresh tasks regions queues priorities bounds marks .answer) notATable

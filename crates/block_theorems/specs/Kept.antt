@@ -33,10 +33,10 @@ UntouchedBlock =
     (block : List ℕ) (c : Call) → areBytes block ≡ true → 10 ≤ statusIn (callBlock block c .answer) → callBlock block c .block ≡ block
 
 -- what becomes of a block by making it fresh, by the status that is answered
-pub record Made (block : List ℕ) (tasks regions queues : ℕ) (priorities bounds : List ℕ) (s : Stored) : Type 0 where
+pub record Made (block : List ℕ) (tasks regions queues : ℕ) (priorities bounds marks : List ℕ) (s : Stored) : Type 0 where
   -- accepted, with the fresh table in it
   pub fresh : statusIn (s .answer) ≡ 0
-      → (areBytes (s .block) ≡ true) × (isTable (s .block) ≡ true) × (unpacked (s .block) ≡ freshTable tasks regions queues priorities bounds)
+      → (areBytes (s .block) ≡ true) × (isTable (s .block) ≡ true) × (unpacked (s .block) ≡ freshTable tasks regions queues priorities bounds marks)
   -- "its 20 leaves the block all 0"
   pub zeros : statusIn (s .answer) ≡ 20 → s .block ≡ replicate blockSize 0
   -- "Make fresh looks only at the size": there is one status more, and it is given for another size
@@ -44,5 +44,5 @@ pub record Made (block : List ℕ) (tasks regions queues : ℕ) (priorities boun
 
 abbrev pub FreshBlock : Type 0
 FreshBlock =
-    (block : List ℕ) (tasks regions queues : ℕ) (priorities bounds : List ℕ)
-    → Made block tasks regions queues priorities bounds (freshBlock block tasks regions queues priorities bounds)
+    (block : List ℕ) (tasks regions queues : ℕ) (priorities bounds marks : List ℕ)
+    → Made block tasks regions queues priorities bounds marks (freshBlock block tasks regions queues priorities bounds marks)

@@ -1,9 +1,9 @@
 -- What an accepted call knows: who calls, which task it changes, and that its numbers fit.
-use Prim.Native.Nat.{ℕ, suc, _+_, _%_, _<_, _≤_}
+use Prim.Native.Nat.{ℕ, zero, suc, _+_, _%_, _<_, _≤_}
 use mathlib.Core.Path.{_≡_, refl, sym, ap, _∙_}
 use mathlib.Core.Logic.{_≢_, _⊎_, inl, inr, ⊎-elim}
 use mathlib.Core.Bool.{Bool, true, false, cond, not, _&&_, _||_, true≢false}
-use mathlib.Core.List.{List}
+use mathlib.Core.List.{List, [], _∷_}
 use native.Mathlib.Omega.{arith}
 use native.Mathlib.Nat.{mod-eq-of-lt}
 use native.Mathlib.Numerals.{add-one}
@@ -11,31 +11,40 @@ use lib.Dec.{eqb, ltb}
 use lib.ListN.{getD, set}
 use borrow.Author.Tests.{eqb-true, eqb-false, ne-eqb, ltb-true, ltb-false, leb-true, not-false}
 use Rattle.rules.specs.declared.Task.{Task}
+use Rattle.rules.specs.declared.Region.{Region}
 use Rattle.rules.specs.declared.Timer.{Timer}
 use Rattle.rules.specs.declared.Table.{Table}
 use Rattle.rules.specs.declared.Call.{Call}
-use Rattle.rules.specs.Numbers.{taskRoom, regionRoom, mostEntries, timerRoom, eventEnd, listEnd, outside, STOP, END, SIGNAL, WAIT, CLEAR, ENTER, EXIT, SEND, ARM, DISARM, TICK}
-use Rattle.rules.specs.Words.{isZero}
+use Rattle.rules.specs.Numbers.{taskRoom, regionRoom, mostEntries, timerRoom, eventEnd, listEnd, outside, nobody, STOP, END, SIGNAL, WAIT, CLEAR, ENTER, EXIT, ARM, DISARM, TICK}
+use Rattle.rules.specs.Words.{isZero, names}
 use Rattle.rules.specs.Queues.{noPair}
 use Rattle.rules.specs.Events.{met}
 use Rattle.rules.specs.Tasks.{stopped, waited}
+use Rattle.rules.specs.Regions.{heldByOther, exited}
 use Rattle.rules.specs.Timers.{idle, later, asArmed, disarmed}
-use Rattle.rules.specs.Tables.{taskOf, regionOf, changed, withRegion, withTimers}
-use Rattle.rules.specs.Validity.{countsInRange}
+use Rattle.rules.specs.Tables.{taskOf, regionOf, heirOf, changed, withRegion, withAwaits, withTimers}
+use Rattle.rules.specs.Validity.{countsInRange, entriesFit}
 use Rattle.rules.specs.Refusals.{missing, badList, wrongState}
-use Rattle.rules.specs.Effects.{Effect, plain, effect}
+use Rattle.rules.specs.Effects.{Effect, plain, enter, handOn, handsOn, exit, effect}
 use Rattle.rules.proofs.Bools.{given, or-left, or-right}
 use Rattle.rules.proofs.Rules.{Parts}
-use Rattle.rules.proofs.ValidTasks.{elected-ready, elected-below}
+use Rattle.rules.proofs.ValidTasks.{priority-small, elected-ready, elected-below}
 use Rattle.rules.proofs.ValidRegions.{entries-fit}
 use Rattle.rules.proofs.Validity.{parts-of}
 use Rattle.rules.proofs.Refusals.{Accepted}
-use Rattle.rules.proofs.Entries.{entries-most}
+use Rattle.rules.proofs.Entries.{entries-most, region-back}
+use Rattle.rules.proofs.Heirs.{heir-inherits}
 use Rattle.rules.proofs.Lists.{altered-set}
 use Rattle.rules.proofs.Effects.{upto}
 use Rattle.tasks.specs.Effects.{target, taskAfter}
-use Rattle.regions.specs.Effects.{regionAfter}
+use Rattle.regions.specs.Effects.{othersRegion, regionEntered, regionLeft}
 use Rattle.timers.specs.Effects.{timerAfter, timersLeft}
+
+-- an entry stored again where it stands
+pub set-own : (xs : List ℕ) (i : ℕ) → set xs i (getD xs i 0) ≡ xs
+set-own [] i = refl
+set-own (x ∷ xs) zero = refl
+set-own (x ∷ xs) (suc i) = ap (λ ys. x ∷ ys) (set-own xs i)
 
 module _ (t : Table) (c : Call) (a : Accepted t c) where
   parts : Parts t
@@ -144,12 +153,14 @@ module _ (t : Table) (c : Call) (a : Accepted t c) where
           absurd (ends-alive o (sym (rw (is, o) at same) ∙ rw o at (ap (λ r. r .state) p)))
       go false e false f = rw (e, f)
 
-  -- ---- the first six operations as one change of one task, and of its timers where it is stopped
+  -- ---- the first six operations as one change of one task, and of its timers and its place in a line where it is stopped
 
   abbrev taskEffect : Effect
   taskEffect =
       record {
-        table = withTimers (t .ticks) (timersLeft (c .operation) (target c) (t .timers)) (changed (target c) (taskAfter c) t);
+        table =
+            withAwaits (target c) (cond (eqb (c .operation) STOP || eqb (c .operation) END) 0 (getD (t .awaits) (target c) 0))
+            (withTimers (t .ticks) (timersLeft (c .operation) (target c) (t .timers)) (changed (target c) (taskAfter c) t));
         status = cond (eqb (c .operation) WAIT && not (met (c .b % 256) (c .a % 65536) (taskOf t (target c) .arrived))) 1 0;
         given = noPair;
       }
@@ -158,16 +169,16 @@ module _ (t : Table) (c : Call) (a : Accepted t c) where
   unfolding effect target taskAfter
   task-effect h =
       upto ENTER (λ n. c .operation ≡ n → effect t c ≡ taskEffect) (
-        λ e. rw e refl,
+        λ e. rw (e, set-own (t .awaits) (c .a)) refl,
         (
           λ e. rw e refl,
           (
             λ e. rw e refl,
             (
-              λ e. rw (e, event-fits e) refl,
+              λ e. rw (e, event-fits e, set-own (t .awaits) (c .b)) refl,
               (
-                λ e. rw (e, waited-fits e, operator-fits e) (waits (c .caller)),
-                (λ e. rw (e, cleared-fits e) refl, tt),
+                λ e. rw (e, waited-fits e, operator-fits e, set-own (t .awaits) (c .caller)) (waits (c .caller)),
+                (λ e. rw (e, cleared-fits e, set-own (t .awaits) (c .caller)) refl, tt),
               ),
             ),
           ),
@@ -186,37 +197,104 @@ module _ (t : Table) (c : Call) (a : Accepted t c) where
       waits : (i : ℕ) → with-status i (cond (met (c .b) (c .a) (taskOf t i .arrived)) 0 1) ≡ with-status i (cond (not (met (c .b) (c .a) (taskOf t i .arrived))) 1 0)
       waits i = ap (with-status i) (flip (met (c .b) (c .a) (taskOf t i .arrived)))
 
-  -- ---- ENTER and EXIT as one change of one region
+  -- ---- ENTER and EXIT as one change of one region and of who waits for it
 
-  enter-or-exit : ENTER ≤ c .operation → c .operation < SEND → (c .operation ≡ ENTER) ⊎ (c .operation ≡ EXIT)
-  enter-or-exit l h = go (eqb (c .operation) ENTER) refl
-    where
-      go : (b : Bool) → eqb (c .operation) ENTER ≡ b → (c .operation ≡ ENTER) ⊎ (c .operation ≡ EXIT)
-      go true e = inl (eqb-true (c .operation) ENTER e)
-      go false e = let n : c .operation ≢ ENTER = eqb-false (c .operation) ENTER e in inr (omega arith)
-
-  pub region-there : ENTER ≤ c .operation → c .operation < SEND → c .a < t .regions
+  pub enter-there : c .operation ≡ ENTER → c .a < t .regions
   unfolding missing
-  region-there l h =
-      ⊎-elim (λ e. within (c .a) (t .regions) (rw e at (a .nothing-missing)))
-      (λ e. within (c .a) (t .regions) (rw e at (a .nothing-missing)))
-      (enter-or-exit l h)
+  enter-there e = within (c .a) (t .regions) (rw e at (a .nothing-missing))
 
-  -- an accepted ENTER's count fits: it is not at its end, and a count is at most 255
-  entries-counted : c .operation ≡ ENTER → (getD (t .entries) (c .a) 0 + 1) % 256 ≡ suc (getD (t .entries) (c .a) 0)
-  unfolding countsInRange
-  entries-counted e =
-      let n = getD (t .entries) (c .a) 0 in
-      let below = region-there (omega (arith, e)) (omega (arith, e)) in
-      let room = leb-true (t .regions) regionRoom (given _ (parts .counts) .1 .1 .0) in
-      let most = entries-most (getD (t .holder) (c .a) 0) n (entries-fit t parts (c .a) (omega arith)) in
-      let more : n ≢ mostEntries = eqb-false n mostEntries (rw e at (a .may-enter)) in
-      mod-eq-of-lt (omega (arith, more)) ∙ add-one n
+  pub exit-there : c .operation ≡ EXIT → c .a < t .regions
+  unfolding missing
+  exit-there e = within (c .a) (t .regions) (rw e at (a .nothing-missing))
 
-  pub region-effect : ENTER ≤ c .operation → c .operation < SEND
-      → effect t c ≡ plain (withRegion (c .a) (regionAfter c (suc (c .caller)) (regionOf t (c .a))) t)
-  unfolding effect regionAfter
-  region-effect l h = ⊎-elim (λ e. rw (entries-counted e) (rw e refl)) (λ e. rw e refl) (enter-or-exit l h)
+  abbrev region : Region
+  region = regionOf t (c .a)
+
+  -- the count of a region that the caller enters fits: a free one's is 0, and its own is not at its end
+  entries-counted : c .operation ≡ ENTER → heldByOther (c .caller) region ≡ false → (region .entries + 1) % 256 ≡ suc (region .entries)
+  entries-counted e o = go (isZero (region .holder)) refl
+    where
+      fit : entriesFit (region .holder) (region .entries) ≡ true
+      fit = entries-fit t parts (c .a) (omega (arith, enter-there e, regions-fit))
+
+      most : region .entries ≤ mostEntries
+      most = entries-most (region .holder) (region .entries) fit
+
+      go : (b : Bool) → isZero (region .holder) ≡ b → (region .entries + 1) % 256 ≡ suc (region .entries)
+      go true z = let none : region .entries ≡ 0 = eqb-true _ 0 (rw z at fit) in rw none refl
+      go false z =
+          let own = not-false (names (region .holder) (c .caller)) (rw z at o) in
+          let more : region .entries ≢ mostEntries = eqb-false (region .entries) mostEntries (rw (e, own) at (a .may-enter)) in
+          mod-eq-of-lt (omega (arith, more, most)) ∙ add-one (region .entries)
+
+  pub enter-effect : c .operation ≡ ENTER
+      → effect t c
+      ≡ record {
+        table =
+            withAwaits (c .caller) (cond (othersRegion (suc (c .caller)) region) (suc (c .a)) (getD (t .awaits) (c .caller) 0))
+            (withRegion (c .a) (regionEntered (suc (c .caller)) region) t);
+        status = cond (othersRegion (suc (c .caller)) region) 1 0;
+        given = noPair;
+      }
+  unfolding effect regionEntered
+  enter-effect e = rw e (go (heldByOther (c .caller) region) refl)
+    where
+      after : Bool → Effect
+      after o =
+          record {
+            table =
+                withAwaits (c .caller) (cond o (suc (c .a)) (getD (t .awaits) (c .caller) 0))
+                (withRegion (c .a) (cond o region (record { holder = suc (c .caller); entries = (region .entries + 1) % 256 })) t);
+            status = cond o 1 0;
+            given = noPair;
+          }
+
+      go : (o : Bool) → heldByOther (c .caller) region ≡ o → enter t c ≡ after (heldByOther (c .caller) region)
+      go true o = rw o (ap (λ u. record { table = withAwaits (c .caller) (suc (c .a)) u; status = 1; given = noPair }) (sym (region-back (c .a) t)))
+      go false o = rw (o, entries-counted e o, set-own (t .awaits) (c .caller)) refl
+
+  -- who gets the region at an EXIT, as the code finds it
+  abbrev heirThen : ℕ
+  heirThen = cond (eqb (region .entries) 1) (heirOf t (c .a)) nobody
+
+  pub heir-known : heirThen ≢ nobody → heirThen < taskRoom
+  heir-known n = go (eqb (region .entries) 1) refl n
+    where
+      go : (b : Bool) → eqb (region .entries) 1 ≡ b → cond b (heirOf t (c .a)) nobody ≢ nobody → cond b (heirOf t (c .a)) nobody < taskRoom
+      go true e m =
+          heir-inherits (t .priority) (t .awaits) (t .opened) (t .holder) (priority-small t (parts .tasks)) (c .a) m .known
+      go false e m = absurd (m refl)
+
+  pub exit-effect : c .operation ≡ EXIT
+      → effect t c
+      ≡ plain
+      (withAwaits (heirThen % taskRoom) (cond (eqb heirThen nobody) (getD (t .awaits) (heirThen % taskRoom) 0) 0)
+      (withRegion (c .a) (regionLeft heirThen region) t))
+  unfolding effect regionLeft
+  exit-effect e = rw e (go (eqb (region .entries) 1) refl (eqb (heirOf t (c .a)) nobody) refl)
+    where
+      after : ℕ → Effect
+      after x =
+          plain
+          (withAwaits (x % taskRoom) (cond (eqb x nobody) (getD (t .awaits) (x % taskRoom) 0) 0)
+          (withRegion (c .a) (cond (eqb x nobody) (exited region) (record { holder = (x + 1) % 256; entries = 1 })) t))
+
+      stays : after nobody ≡ plain (withRegion (c .a) (exited region) t)
+      stays = rw (set-own (t .awaits) (nobody % taskRoom)) refl
+
+      free : handsOn (c .a) t ≡ false → heirThen ≡ nobody → exit t c ≡ after heirThen
+      free h k =
+          ap (λ b. cond b (plain (handOn (c .a) t)) (plain (withRegion (c .a) (exited region) t))) h ∙ sym stays ∙ ap after (sym k)
+
+      go : (b : Bool) → eqb (region .entries) 1 ≡ b → (n : Bool) → eqb (heirOf t (c .a)) nobody ≡ n → exit t c ≡ after heirThen
+      go true o true n = free (rw (o, n) refl) (ap (λ b. cond b (heirOf t (c .a)) nobody) o ∙ eqb-true (heirOf t (c .a)) nobody n)
+      go true o false n =
+          let some : heirOf t (c .a) ≢ nobody = eqb-false (heirOf t (c .a)) nobody n in
+          let known = heir-inherits (t .priority) (t .awaits) (t .opened) (t .holder) (priority-small t (parts .tasks)) (c .a) some .known in
+          let row : heirOf t (c .a) % taskRoom ≡ heirOf t (c .a) = mod-eq-of-lt known in
+          let mine : (heirOf t (c .a) + 1) % 256 ≡ suc (heirOf t (c .a)) = mod-eq-of-lt (omega (arith, known)) ∙ add-one (heirOf t (c .a)) in
+          rw (o, n, row, mine) refl
+      go false o n k = free (rw o refl) (ap (λ b. cond b (heirOf t (c .a)) nobody) o)
 
   -- ---- ARM and DISARM as one change of one timer
 

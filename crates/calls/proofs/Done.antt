@@ -17,13 +17,14 @@ use Rattle.rules.specs.declared.Table.{Table}
 use Rattle.rules.specs.declared.Call.{Call}
 use Rattle.rules.specs.declared.Elected.{Elected}
 use Rattle.rules.specs.declared.Done.{Done}
-use Rattle.rules.specs.Numbers.{taskRoom, regionRoom, queueRoom, places, storeSize, criterionEnd, timerRoom, nobody, WAIT, ENTER, SEND, RETRIEVE, ARM, TICK}
+use Rattle.rules.specs.Numbers.{taskRoom, regionRoom, queueRoom, places, storeSize, criterionEnd, timerRoom, nobody, STOP, END, WAIT, ENTER, EXIT, SEND, RETRIEVE, ARM, TICK}
 use Rattle.rules.specs.Events.{met}
 use Rattle.rules.specs.Regions.{held}
 use Rattle.rules.specs.Queues.{Pair, pair, firstPlace}
 use Rattle.rules.specs.Timers.{later, rung}
 use Rattle.rules.specs.Election.{electBy}
-use Rattle.rules.specs.Tables.{taskOf, regionOf, timerOf, lengthOf, boundOf, queueOf, withTask, withRegion, withElected, electionOf, electOf, withStore, withTimers}
+use Rattle.rules.specs.Urgency.{closedHolders, statesWith, urgencies}
+use Rattle.rules.specs.Tables.{taskOf, regionOf, timerOf, lengthOf, boundOf, queueOf, heirOf, statesOf, urgenciesOf, closedOf, withTask, withRegion, withAwaits, withElected, electionOf, electOf, withStore, withTimers}
 use Rattle.rules.specs.Answers.{done}
 use Rattle.rules.specs.Refusals.{missing, refusal}
 use Rattle.rules.specs.Effects.{Effect, plain, ticked, effect}
@@ -39,14 +40,14 @@ use Rattle.queues.specs.Gaps.{closedIn}
 use Rattle.queues.specs.Places.{placeIn}
 use Rattle.queues.proofs.Places.{place-is, none-is, given-is, taken-is}
 use Rattle.tasks.specs.Effects.{target, taskAfter}
-use Rattle.regions.specs.Effects.{regionAfter}
+use Rattle.regions.specs.Effects.{othersRegion, regionEntered, regionLeft}
 use Rattle.timers.specs.declared.ring.Rows.{Rows}
 use Rattle.timers.specs.Signals.{rungRows, rowsOf, withRows}
 use Rattle.timers.specs.Effects.{timerAfter, timersLeft}
 use Rattle.timers.proofs.Signals.{ticked-is}
 use Rattle.refusals.proofs.Refused.{room, send-there, retrieve-there}
 use Rattle.tables.specs.Fronts.{answered}
-use Rattle.calls.proofs.Accepted.{tasks-fit, regions-fit, target-below, caller-below, region-there, timer-there, still-runs, task-effect, region-effect, timer-effect}
+use Rattle.calls.proofs.Accepted.{set-own, tasks-fit, regions-fit, target-below, caller-below, enter-there, exit-there, timer-there, still-runs, task-effect, enter-effect, exit-effect, timer-effect}
 
 -- a refused call leaves the table as it came in
 pub refused-step : (t : Table) (c : Call) (s who : ℕ) → s ≡ refusal t c → s ≢ 0 → who ≡ cond (eqb s 10 || eqb s 20) nobody (t .elected)
@@ -63,12 +64,6 @@ as-answered : (u : Table) (b : Bool) (displaced : ℕ) → done u (cond b 1 0) 0
 as-answered u true displaced = refl
 as-answered u false displaced = refl
 
--- an entry stored again where it stands
-set-own : (xs : List ℕ) (i : ℕ) → set xs i (getD xs i 0) ≡ xs
-set-own [] i = refl
-set-own (x ∷ xs) zero = refl
-set-own (x ∷ xs) (suc i) = ap (λ ys. x ∷ ys) (set-own xs i)
-
 module _ (t : Table) (c : Call) (z : refusal t c ≡ 0) where
   facts : Accepted t c
   facts = accepted-facts t c z
@@ -83,7 +78,7 @@ module _ (t : Table) (c : Call) (z : refusal t c ≡ 0) where
   stays-is : stays ≡ electOf (t .elected) t
   stays-is =
       ap₂ (λ who other. record { task = who; displaced = other }) (parts .elected)
-      (sym (same-undisplaced (t .elected) (t .state) (electionOf t) (sym (parts .elected))))
+      (sym (same-undisplaced (t .elected) (statesOf t) (electionOf t) (sym (parts .elected))))
 
   -- ---- START, STOP, END, SIGNAL, WAIT, CLEAR
 
@@ -97,32 +92,74 @@ module _ (t : Table) (c : Call) (z : refusal t c ≡ 0) where
     abbrev suspended : Bool
     suspended = eqb (c .operation) WAIT && not (met (c .b % 256) (c .a % 65536) (taskOf t (target c) .arrived))
 
-    pub task-changed : (left : List Timer) (v : ℕ) (next : Elected) → left ≡ timersLeft (c .operation) (i % taskRoom) (t .timers)
-        → v ≡ held (t .holder) → next ≡ electBy (t .elected) v (set (t .state) (i % taskRoom) (after .state)) (t .priority)
-        → answered (withElected (next .task) (withTimers (t .ticks) left (withTask (i % taskRoom) after t))) status 0 0 (next .displaced) ≡ step t c
-    task-changed left v next k r s =
-        let elects : next ≡ electOf (t .elected) (withTask (i % taskRoom) after t) = s ∙ rw r (elect-by _ _ _ _) in
-        rw (elects, k, w, q, p) (rw row (sym (accepted-is t c z ∙ ap (accepted (t .elected)) (task-effect t c facts low) ∙ as-answered _ suspended _)))
+    pub task-changed : (left : List Timer) (awaited v : ℕ) (next : Elected) → left ≡ timersLeft (c .operation) (i % taskRoom) (t .timers)
+        → awaited ≡ cond (eqb (c .operation) STOP || eqb (c .operation) END) 0 (getD (t .awaits) (i % taskRoom) 0)
+        → v ≡ held (closedOf t)
+        → next
+        ≡ electBy (t .elected) v (statesWith (set (t .awaits) (i % taskRoom) awaited) (set (t .state) (i % taskRoom) (after .state)))
+        (urgencies (t .priority) (set (t .awaits) (i % taskRoom) awaited) (t .opened) (t .holder))
+        → answered (withElected (next .task) (withAwaits (i % taskRoom) awaited (withTimers (t .ticks) left (withTask (i % taskRoom) after t)))) status 0 0 (next .displaced)
+        ≡ step t c
+    task-changed left awaited v next k o r s =
+        let elects : next ≡ electOf (t .elected) (withAwaits (i % taskRoom) awaited (withTask (i % taskRoom) after t)) = s ∙ rw r (elect-by _ _ _ _) in
+        rw (elects, k, o, w, q, p)
+        (rw row (sym (accepted-is t c z ∙ ap (accepted (t .elected)) (task-effect t c facts low) ∙ as-answered _ suspended _)))
 
-    -- where the task keeps its state, nobody else is elected and no timer is disarmed
+    -- where the task keeps its state, nobody else is elected, no timer is disarmed and no line left
     pub task-kept : after .state ≡ taskOf t (i % taskRoom) .state → answered (withTask (i % taskRoom) after t) status 0 0 nobody ≡ step t c
     task-kept same =
         let states : set (t .state) (i % taskRoom) (after .state) ≡ t .state = ap (set (t .state) (i % taskRoom)) same ∙ set-own (t .state) (i % taskRoom) in
-        task-changed (t .timers) (held (t .holder)) stays (rw (still-runs t c facts (i % taskRoom) row after p same) refl) refl
-        (stays-is ∙ sym (rw states (elect-by _ _ _ _)))
+        let waits : set (t .awaits) (i % taskRoom) (getD (t .awaits) (i % taskRoom) 0) ≡ t .awaits = set-own (t .awaits) (i % taskRoom) in
+        let runs = still-runs t c facts (i % taskRoom) row after p same in
+        rw waits at
+        (task-changed (t .timers) (getD (t .awaits) (i % taskRoom) 0) (held (closedOf t)) stays (rw runs refl) (rw runs refl) refl
+        (stays-is ∙ sym (rw (waits, states) (elect-by _ _ _ _))))
 
   -- ---- ENTER and EXIT
 
-  pub region-step : ENTER ≤ c .operation → c .operation < SEND → {mine : ℕ} → mine ≡ (c .caller + 1) % 256
-      → {after : Region} {v : ℕ} {next : Elected} → after ≡ regionAfter c mine (regionOf t (c .a % regionRoom))
-      → v ≡ held (set (t .holder) (c .a % regionRoom) (after .holder)) → next ≡ electBy (t .elected) v (t .state) (t .priority)
-      → answered (withElected (next .task) (withRegion (c .a % regionRoom) after t)) 0 0 0 (next .displaced) ≡ step t c
-  region-step l h m {after} {next = next} p q r =
-      let row : c .a % regionRoom ≡ c .a = mod-eq-of-lt (omega (arith, region-there t c facts l h, regions-fit t c facts)) in
-      let below = caller-below t c facts (omega arith) (omega arith) in
-      let mine-is : (c .caller + 1) % 256 ≡ suc (c .caller) = mod-eq-of-lt (omega (arith, below, tasks-fit t c facts)) ∙ add-one (c .caller) in
-      let elects : next ≡ electOf (t .elected) (withRegion (c .a % regionRoom) after t) = r ∙ rw q (elect-by _ _ _ _) in
-      rw (elects, p, m, mine-is, row) (sym (accepted-is t c z ∙ ap (accepted (t .elected)) (region-effect t c facts l h)))
+  -- the region and the caller, and who gets the region at an EXIT, as the code reads them
+  abbrev there : ℕ
+  there = c .a % regionRoom
+
+  abbrev who : ℕ
+  who = c .caller % taskRoom
+
+  abbrev heirHere : ℕ
+  heirHere = cond (eqb (regionOf t there .entries) 1) (heirOf t there) nobody
+
+  module _ (e : c .operation ≡ ENTER) {mine : ℕ} (m : mine ≡ (c .caller + 1) % 256) {after : Region} {waits : Bool} {status awaited v : ℕ}
+      {next : Elected} where
+    pub enter-step : waits ≡ othersRegion mine (regionOf t there) → after ≡ regionEntered mine (regionOf t there)
+        → awaited ≡ cond waits (there + 1) (getD (t .awaits) who 0) → status ≡ cond waits 1 0
+        → v ≡ held (closedHolders (t .opened) (set (t .holder) there (after .holder)))
+        → next
+        ≡ electBy (t .elected) v (statesWith (set (t .awaits) who awaited) (t .state))
+        (urgencies (t .priority) (set (t .awaits) who awaited) (t .opened) (set (t .holder) there (after .holder)))
+        → answered (withElected (next .task) (withAwaits who awaited (withRegion there after t))) status 0 0 (next .displaced) ≡ step t c
+    enter-step o p w s q r =
+        let row : there ≡ c .a = mod-eq-of-lt (omega (arith, enter-there t c facts e, regions-fit t c facts)) in
+        let below = caller-below t c facts (omega (arith, e)) (omega (arith, e)) in
+        let who-is : who ≡ c .caller = mod-eq-of-lt (omega (arith, below, tasks-fit t c facts)) in
+        let mine-is : (c .caller + 1) % 256 ≡ suc (c .caller) = mod-eq-of-lt (omega (arith, below, tasks-fit t c facts)) ∙ add-one (c .caller) in
+        let elects : next ≡ electOf (t .elected) (withAwaits who awaited (withRegion there after t)) = r ∙ rw q (elect-by _ _ _ _) in
+        rw (elects, w, s, o, p, m, mine-is, row, who-is, add-one (c .a))
+        (sym
+        (accepted-is t c z
+        ∙ ap (accepted (t .elected)) (enter-effect t c facts e)
+        ∙ as-answered _ (othersRegion (suc (c .caller)) (regionOf t (c .a))) _))
+
+  module _ (e : c .operation ≡ EXIT) {heir : ℕ} {after : Region} {awaited v : ℕ} {next : Elected} where
+    pub exit-step : heir ≡ heirHere → after ≡ regionLeft heir (regionOf t there)
+        → awaited ≡ cond (eqb heir nobody) (getD (t .awaits) (heir % taskRoom) 0) 0
+        → v ≡ held (closedHolders (t .opened) (set (t .holder) there (after .holder)))
+        → next
+        ≡ electBy (t .elected) v (statesWith (set (t .awaits) (heir % taskRoom) awaited) (t .state))
+        (urgencies (t .priority) (set (t .awaits) (heir % taskRoom) awaited) (t .opened) (set (t .holder) there (after .holder)))
+        → answered (withElected (next .task) (withAwaits (heir % taskRoom) awaited (withRegion there after t))) 0 0 0 (next .displaced) ≡ step t c
+    exit-step x p w q r =
+        let row : there ≡ c .a = mod-eq-of-lt (omega (arith, exit-there t c facts e, regions-fit t c facts)) in
+        let elects : next ≡ electOf (t .elected) (withAwaits (heir % taskRoom) awaited (withRegion there after t)) = r ∙ rw q (elect-by _ _ _ _) in
+        rw (elects, w, p, x, row) (sym (accepted-is t c z ∙ ap (accepted (t .elected)) (exit-effect t c facts e)))
 
   -- ---- ARM, DISARM and TICK
 
@@ -139,7 +176,7 @@ module _ (t : Table) (c : Call) (z : refusal t c ≡ 0) where
 
   pub tick-step : c .operation ≡ TICK → {now v : ℕ} {next : Elected} {rows : Rows} {left : List Timer}
       → now ≡ later (t .ticks) 1 → rows ≡ rungRows now (t .timers) (rowsOf t) → left ≡ map (rung now) (t .timers)
-      → v ≡ held (t .holder) → next ≡ electBy (t .elected) v (rows .state) (t .priority)
+      → v ≡ held (closedOf t) → next ≡ electBy (t .elected) v (statesWith (t .awaits) (rows .state)) (urgenciesOf t)
       → answered (withElected (next .task) (withTimers now left (withRows rows t))) 0 0 0 (next .displaced) ≡ step t c
   unfolding effect
   tick-step e {next = next} {rows} n p q r s =

@@ -1,7 +1,8 @@
 // One call on a table whose store is lent: refused with the first reason that applies, or done by its kind.
 use crate::queue::retrieve_call;
 use crate::queue::send_call;
-use crate::region::region_call;
+use crate::region::enter_call;
+use crate::region::exit_call;
 use crate::task::task_call;
 use crate::timer::tick_call;
 use crate::timer::timer_call;
@@ -56,8 +57,11 @@ pub fn call_assuming(
     if operation < ENTER {
         return task_call(f, k);
     }
+    if operation == ENTER {
+        return enter_call(f, k);
+    }
     if operation < SEND {
-        return region_call(f, k);
+        return exit_call(f, k);
     }
     if operation == SEND {
         return send_call(f, k, element, criterion);

@@ -1,38 +1,97 @@
-// ENTER and EXIT, once accepted: one region changes, and the elected task is found afresh. The remainder is for a call that was told a lie.
-use election::elect;
-use regions::held_by;
-use regions::region_after;
+// ENTER and EXIT, once accepted: one region changes, or its caller waits for it, and the elected task is found afresh. The remainders are for
+// a call that was told a lie.
+use refusals::pick;
+use regions::closed_held;
+use regions::entered;
+use regions::held_by_other;
+use regions::left_to;
 use rules::Answer;
 use rules::Call;
+use rules::NOBODY;
 use rules::REGIONS;
 use rules::Region;
+use rules::TASKS;
 use tables::Front;
 use tables::FrontDone;
-ghost use Prim.Native.Nat.{_<_, _≤_};
-ghost use Rattle.rules.specs.Numbers.{ENTER, SEND};
+use urgency::elect_now;
+use urgency::heir_at_exit;
+ghost use mathlib.Core.Path.{_≡_};
+ghost use Rattle.rules.specs.Numbers.{ENTER, EXIT};
 ghost use Rattle.calls.specs.Steps.{FrontStep};
 
-pub(crate) fn region_call(mut t: Front, k: Call) -> FrontDone
-    requires { ⌜ ENTER ≤ k .operation ⌝ }
-    requires { ⌜ k .operation < SEND ⌝ }
+// Where another task holds the region the caller waits for it, and the region stays as it is; else the region is the caller's.
+pub(crate) fn enter_call(mut t: Front, k: Call) -> FrontDone
+    requires { ⌜ k .operation ≡ ENTER ⌝ }
     ensures { λ r. ⌜ FrontStep t k r ⌝ }
 {
     let at = (k.a as usize) % REGIONS;
+    let who = (k.caller as usize) % TASKS;
     let mine = std::num::wrapping_add_u8(k.caller, 1);
-    let holder = t.holder[at];
-    let entries = t.entries[at];
-    let region = region_after(
-        k,
-        mine,
-        Region {
-            holder: holder,
-            entries: entries,
-        },
+    let region = Region {
+        holder: t.holder[at],
+        entries: t.entries[at],
+    };
+    let waits = held_by_other(mine, region);
+    let after = entered(mine, region);
+    t.holder[at] = after.holder;
+    t.entries[at] = after.entries;
+    t.awaits[who] = pick(waits, (at + 1) as u8, t.awaits[who]);
+    let v = closed_held(&t.opened, &t.holder);
+    let next = elect_now(
+        t.elected,
+        v,
+        &t.state,
+        &t.priority,
+        &t.awaits,
+        &t.opened,
+        &t.holder,
     );
-    t.holder[at] = region.holder;
-    t.entries[at] = region.entries;
-    let v = held_by(&t.holder);
-    let next = elect(t.elected, v, &t.state, &t.priority);
+    t.elected = next.task;
+    FrontDone {
+        front: t,
+        answer: Answer {
+            status: pick(waits, 1, 0),
+            value: 0,
+            key: 0,
+            elected: t.elected,
+            displaced: next.displaced,
+        },
+    }
+}
+
+// Where there is an heir it holds the region now, and waits no more.
+pub(crate) fn exit_call(mut t: Front, k: Call) -> FrontDone
+    requires { ⌜ k .operation ≡ EXIT ⌝ }
+    ensures { λ r. ⌜ FrontStep t k r ⌝ }
+{
+    let at = (k.a as usize) % REGIONS;
+    let region = Region {
+        holder: t.holder[at],
+        entries: t.entries[at],
+    };
+    let heir = heir_at_exit(
+        region.entries,
+        at,
+        &t.priority,
+        &t.awaits,
+        &t.opened,
+        &t.holder,
+    );
+    let after = left_to(heir, region);
+    t.holder[at] = after.holder;
+    t.entries[at] = after.entries;
+    let who = (heir as usize) % TASKS;
+    t.awaits[who] = pick(heir == NOBODY, t.awaits[who], 0);
+    let v = closed_held(&t.opened, &t.holder);
+    let next = elect_now(
+        t.elected,
+        v,
+        &t.state,
+        &t.priority,
+        &t.awaits,
+        &t.opened,
+        &t.holder,
+    );
     t.elected = next.task;
     FrontDone {
         front: t,

@@ -1,10 +1,11 @@
 // START, STOP, END, SIGNAL, WAIT and CLEAR, once accepted: one task changes. The remainders are for a call that was told a lie.
-use election::elect;
 use refusals::pick;
-use regions::held_by;
+use regions::closed_held;
 use rules::Answer;
 use rules::Call;
+use rules::END;
 use rules::NOBODY;
+use rules::STOP;
 use rules::TASKS;
 use rules::Task;
 use rules::WAIT;
@@ -14,12 +15,13 @@ use tasks::met_by;
 use tasks::target_of;
 use tasks::task_after;
 use timers::timers_left;
+use urgency::elect_now;
 ghost use Prim.Native.Nat.{_<_};
 ghost use Rattle.rules.specs.Numbers.{ENTER};
 ghost use Rattle.calls.specs.Steps.{FrontStep};
 
-// Nobody is elected afresh where the task keeps its state. A task that STOP or END names isn't stopped yet, so that its timers need a look
-// only where its state changes.
+// Nobody is elected afresh where the task keeps its state. A task that STOP or END names isn't stopped yet, so that its timers and the line
+// that it may stand in need a look only where its state changes.
 pub(crate) fn task_call(mut t: Front, k: Call) -> FrontDone
     requires { ⌜ k .operation < ENTER ⌝ }
     ensures { λ r. ⌜ FrontStep t k r ⌝ }
@@ -50,8 +52,18 @@ pub(crate) fn task_call(mut t: Front, k: Call) -> FrontDone
             },
         };
     }
-    let v = held_by(&t.holder);
-    let next = elect(t.elected, v, &t.state, &t.priority);
+    let stops = (k.operation == STOP) | (k.operation == END);
+    t.awaits[i] = pick(stops, 0, t.awaits[i]);
+    let v = closed_held(&t.opened, &t.holder);
+    let next = elect_now(
+        t.elected,
+        v,
+        &t.state,
+        &t.priority,
+        &t.awaits,
+        &t.opened,
+        &t.holder,
+    );
     t.elected = next.task;
     let timers = t.timers;
     t.timers = timers_left(k.operation, i as u8, timers);

@@ -1,7 +1,6 @@
 // ARM and DISARM, which change one timer, and TICK, once accepted: all due timers signal, and then one election. The remainder is for a
 // call that was told a lie.
-use election::elect;
-use regions::held_by;
+use regions::closed_held;
 use rules::Answer;
 use rules::Call;
 use rules::NOBODY;
@@ -13,6 +12,7 @@ use timers::later_by;
 use timers::rung_all;
 use timers::rung_rows;
 use timers::timer_after;
+use urgency::elect_now;
 ghost use Prim.Native.Nat.{_<_, _≤_};
 ghost use Rattle.rules.specs.Numbers.{ARM, TICK};
 ghost use Rattle.calls.specs.Steps.{FrontStep, TickStep};
@@ -66,8 +66,16 @@ pub(crate) fn tick_call(mut t: Front) -> FrontDone
     t.operator = operator;
     t.timers = rung_all(now, timers);
     t.ticks = now;
-    let v = held_by(&t.holder);
-    let next = elect(t.elected, v, &t.state, &t.priority);
+    let v = closed_held(&t.opened, &t.holder);
+    let next = elect_now(
+        t.elected,
+        v,
+        &t.state,
+        &t.priority,
+        &t.awaits,
+        &t.opened,
+        &t.holder,
+    );
     t.elected = next.task;
     FrontDone {
         front: t,

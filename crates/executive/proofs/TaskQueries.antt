@@ -12,6 +12,7 @@ use Rattle.rules.specs.declared.Table.{Table}
 use Rattle.rules.specs.Numbers.{outside}
 use Rattle.rules.specs.Words.{isZero, every, Reason, when, first}
 use Rattle.rules.specs.Events.{met}
+use Rattle.rules.specs.Urgency.{stateWith}
 use Rattle.rules.specs.Validity.{valid}
 use Rattle.rules.specs.Refusals.{badList, badOperator, arrivedReasons, objectReasons}
 use Rattle.rules.specs.Queries.{oneIf, arrivedQuery, priorityQuery, stateQuery}
@@ -34,7 +35,7 @@ module _ (t : Table) (ok : Bool) (s : ℕ) (is : ok ≡ valid t) where
   unfolding priorityQuery objectReasons
   priority-is i value f v = rw (v, f, is)
 
-  pub state-is : (i value : ℕ) → s ≡ objectFlags ok (t .tasks) i → value ≡ getD (t .state) i 0
+  pub state-is : (i value : ℕ) → s ≡ objectFlags ok (t .tasks) i → value ≡ stateWith (getD (t .awaits) i 0) (getD (t .state) i 0)
       → replyBy s value (t .elected) ≡ stateQuery t i
   unfolding stateQuery objectReasons
   state-is i value f v = rw (v, f, is)

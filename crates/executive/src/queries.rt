@@ -8,6 +8,7 @@ use rules::TASKS;
 use rules::Table;
 use tables::byte_at;
 use tasks::met_by;
+use urgency::state_with;
 use validity::is_valid;
 ghost use mathlib.Core.Path.{_≡_};
 ghost use Rattle.rules.specs.Numbers.{taskRoom};
@@ -65,12 +66,14 @@ pub fn priority(t: Table, task: u32) -> Answer
     reply_of(status, p as u32, t.elected)
 }
 
-// STATE: 0 stopped, 1 ready, 2 waiting.
+// STATE: 0 stopped, 1 ready, 2 waiting, 3 waiting for a region.
 pub fn state(t: Table, task: u32) -> Answer
     ensures { λ r. ⌜ r ≡ stateQuery t task ⌝ }
 {
     let valid = is_valid(t);
     let status = object_status(valid, t.tasks, task);
-    let s = byte_at(&t.state, task as usize);
+    let stored = byte_at(&t.state, task as usize);
+    let awaited = byte_at(&t.awaits, task as usize);
+    let s = state_with(awaited, stored);
     reply_of(status, s as u32, t.elected)
 }

@@ -16,12 +16,13 @@ use Rattle.rules.specs.Words.{isZero, altered, byOperation}
 use Rattle.rules.specs.Events.{has}
 use Rattle.rules.specs.Tasks.{signalled}
 use Rattle.rules.specs.Timers.{later, ahead, idle, isArmed, asArmed, disarmed, isDue, rung}
-use Rattle.rules.specs.Tables.{taskOf, timerOf, changed, settled}
+use Rattle.rules.specs.Regions.{heldByOther}
+use Rattle.rules.specs.Tables.{taskOf, regionOf, timerOf, changed, settled}
 use Rattle.rules.specs.Validity.{shaped, timerRight, valid}
 use Rattle.rules.specs.Refusals.{absent, badDelay, missing, wrongState, othersAt, refusal}
-use Rattle.rules.specs.Effects.{Effect, ringing, ticked, nothing, operations, effect}
+use Rattle.rules.specs.Effects.{Effect, handsOn, ringing, ticked, nothing, operations, effect}
 use Rattle.rules.specs.Step.{step}
-use Rattle.rules.proofs.Bools.{and-left, and-right, or-left, or-right}
+use Rattle.rules.proofs.Bools.{_&_, and-left, and-right, or-left, or-right}
 use Rattle.rules.proofs.Lists.{every-at, altered-here, altered-other}
 use Rattle.rules.proofs.Events.{has-arrived, has-other}
 use Rattle.theorems.proofs.Tasks.{signalled-arrived}
@@ -31,7 +32,7 @@ use Rattle.theorems.proofs.ArmedTimers.{disarm-others, timer-given, idle-right,
 use Rattle.rules.proofs.Rules.{Parts}
 use Rattle.rules.proofs.Validity.{parts-of}
 use Rattle.rules.proofs.Refusals.{Accepted, accepted-facts}
-use Rattle.rules.proofs.Effects.{each-effect}
+use Rattle.rules.proofs.Effects.{either-effect, each-effect}
 use Rattle.theorems.specs.Kept.{afterAll}
 use Rattle.lasting_theorems.specs.Lasting.{arrivedAt}
 use Rattle.lasting_theorems.specs.Delays.{isTick, dueNext, DueRings, NoRingLost, OthersStay, OnlyDueRings, disturbs, LeftAlone, ticksIn, DelayKept}
@@ -160,10 +161,11 @@ module _ (t : Table) (c : Call) (i : ℕ) (armed : isArmed (timerOf t i) ≡ tru
           absurd (true≢false (simp (same, armed, other-way (c .caller) (timerOf t i .owner) (simp e at n)) at o))
       go false e = altered-other f (c .a) i idle (t .timers) (eqb-false _ _ e)
 
+  abbrev Same : Effect → Type 0
+  Same x = (timerOf (x .table) i ≡ timerOf t i) × (x .table .ticks ≡ t .ticks)
+
   abbrev Stays : ℕ → Effect → Type 0
-  Stays n x =
-      Accepted t (numbered n c) → disturbs i (timerOf t i .owner) (numbered n c) ≡ false → isTick (numbered n c) ≡ false
-      → (timerOf (x .table) i ≡ timerOf t i) × (x .table .ticks ≡ t .ticks)
+  Stays n x = Accepted t (numbered n c) → disturbs i (timerOf t i .owner) (numbered n c) ≡ false → isTick (numbered n c) ≡ false → Same x
 
   untouched : {n : ℕ} → Accepted t (numbered n c) → disturbs i (timerOf t i .owner) (numbered n c) ≡ false → isTick (numbered n c) ≡ false
       → (timerOf t i ≡ timerOf t i) × (t .ticks ≡ t .ticks)
@@ -193,7 +195,10 @@ module _ (t : Table) (c : Call) (i : ℕ) (armed : isArmed (timerOf t i) ≡ tru
       → (timerOf (effect t c .table) i ≡ timerOf t i) × (effect t c .table .ticks ≡ t .ticks)
   effect-stays =
       each-effect t c Stays
-      (untouched, (stop-stays, (end-stays, (untouched, (untouched, (untouched, (untouched, (untouched, (untouched, (untouched, (arm-stays, (disarm-stays, (tick-stays, tt)))))))))))))
+      (untouched & stop-stays & end-stays & untouched & untouched & untouched
+      & (λ o d k. either-effect Same (heldByOther (c .caller) (regionOf t (c .a))) (refl, refl) (refl, refl))
+      & (λ o d k. either-effect Same (handsOn (c .a) t) (refl, refl) (refl, refl))
+      & untouched & untouched & arm-stays & disarm-stays & tick-stays & tt)
       (λ n. untouched)
 
   timer-stays : disturbs i (timerOf t i .owner) c ≡ false → isTick c ≡ false

@@ -9,17 +9,19 @@ use Rattle.rules.specs.declared.Table.{Table}
 use Rattle.rules.specs.declared.Call.{Call}
 use Rattle.rules.specs.declared.Done.{Done}
 use Rattle.rules.specs.Numbers.{START}
-use Rattle.rules.specs.Words.{all, every, below, padded}
+use Rattle.rules.specs.Words.{all, every, below, padded, column}
 use Rattle.rules.specs.Events.{met, arrive}
 use Rattle.rules.specs.Tasks.{woken, signalled, waited}
 use Rattle.rules.specs.Regions.{held}
 use Rattle.rules.specs.Queues.{pairs, front, behind as behindFront, laid, largest, before as beforeFirst, place, without}
 use Rattle.rules.specs.Election.{smallest, lowest, isBest, bestReady, election, displacedBy}
+use Rattle.rules.specs.Urgency.{closedHolders, holdsOpen, statesWith, urgencyBy, regionUrgency, taskUrgency, urgencies, line, heir}
+use Rattle.rules.specs.Circles.{onward, ends, meets, noCircle}
 use Rattle.rules.specs.Tables.{queueOf}
-use Rattle.rules.specs.Validity.{shaped, countsInRange, prioritiesInRange, boundsInRange, listsInRange, operatorsInRange, holdersInRange, criteriaInRange, zeroPast, zeroPastCounts, zeroPastLengths, restRight, statesRight, entriesRight, oneHolder, holderReady, holderElected, lengthsRight, electedRight, timerRight, timersRight, valid}
+use Rattle.rules.specs.Validity.{shaped, countsInRange, prioritiesInRange, boundsInRange, listsInRange, operatorsInRange, holdersInRange, criteriaInRange, zeroPast, zeroPastCounts, zeroPastLengths, restRight, statesRight, entriesRight, oneHolder, holderReady, holderElected, lengthsRight, electedRight, timerRight, timersRight, marksInRange, openHoldersRight, awaitsRight, valid}
 use Rattle.rules.specs.Answers.{refused}
 use Rattle.rules.specs.Fresh.{freshTable, zeroTable}
-use Rattle.rules.specs.Refusals.{missing, wrongState, leaves, reasons, refusal}
+use Rattle.rules.specs.Refusals.{missing, wrongState, leaves, inside, closesCircle, stopsHolder, reasons, refusal}
 use Rattle.rules.specs.Timers.{later, ahead}
 use Rattle.rules.specs.Effects.{ringing, ticked, effect}
 use Rattle.rules.specs.Step.{step}
@@ -27,27 +29,35 @@ use Rattle.exclusion.specs.Marks.{marks, mark, passesSignal}
 use Rattle.theorems.specs.Happenings.{Outer, Happening, outside, own, run, calls, outers, Reply, reply, callReplies, outerStatuses}
 use Rattle.theorems.proofs.Damaged.{stays-agree}
 use Rattle.theorems.proofs.Order.{demand3}
-use Rattle.lasting_theorems.specs.Examples.{begun, by, Premise, SameEnd, counting, ticksFirst, ticksLater, SameEndTicking, waits, wakesFirst, wakesLater, SameEndWaking, signalInside, signalBehind, OthersDisplaced, electsFirst, electsLater, SameEndElecting, OnlyRefusingPasses, FixedPasses, UntouchedPasses, NotInTurn, NotFree, NotPastArm, NotPastDisarm, NotOnlyRefusing, NotFixed, NotUntouched}
+use Rattle.lasting_theorems.specs.Examples.{begun, by, Premise, SameEnd, counting, ticksFirst, ticksLater, SameEndTicking, waits, wakesFirst, wakesLater, SameEndWaking, sharing, signalInLine, signalBefore, SameEndInLine, signalInside, signalBehind, OthersDisplaced, electsFirst, electsLater, SameEndElecting, OnlyRefusingPasses, FixedPasses, UntouchedPasses, NotInTurn, NotFree, NotPastArm, NotPastDisarm, NotOnlyRefusing, NotFixed, NotUntouched}
 
 -- to unfold one of these is to unfold all that the rules compute with: objects, the check, and a call
 unfoldable pub objects : Unit {0}
-unfolding all every below padded met arrive woken signalled waited held pairs front behindFront laid largest beforeFirst place without queueOf
+unfolding all every below padded column met arrive woken signalled waited held pairs front behindFront laid largest beforeFirst place without queueOf
 objects = tt
 
 unfoldable pub elections : Unit {0}
-unfolding smallest lowest isBest bestReady election displacedBy
+unfolding smallest lowest isBest bestReady election displacedBy closedHolders statesWith urgencyBy regionUrgency taskUrgency urgencies
 elections = tt
+
+unfoldable pub lines : Unit {0}
+unfolding holdsOpen line heir onward ends meets noCircle
+lines = tt
 
 unfoldable pub ranges : Unit {0}
 unfolding shaped countsInRange prioritiesInRange boundsInRange listsInRange operatorsInRange holdersInRange criteriaInRange
 ranges = tt
 
+unfoldable pub openRegions : Unit {0}
+unfolding marksInRange openHoldersRight awaitsRight
+openRegions = tt
+
 unfoldable pub checks : Unit {0}
-unfolding ranges zeroPast zeroPastCounts zeroPastLengths restRight statesRight entriesRight oneHolder holderReady holderElected lengthsRight electedRight timerRight timersRight valid
+unfolding ranges zeroPast zeroPastCounts zeroPastLengths restRight statesRight entriesRight oneHolder holderReady holderElected lengthsRight electedRight timerRight timersRight openRegions valid
 checks = tt
 
 unfoldable pub rules : Unit {0}
-unfolding objects elections checks later ahead ringing ticked freshTable zeroTable missing wrongState leaves reasons refusal effect step
+unfolding objects elections lines checks later ahead ringing ticked freshTable zeroTable missing wrongState leaves inside closesCircle stopsHolder reasons refusal effect step
 rules = tt
 
 firstStatus : List Reply → ℕ
@@ -108,6 +118,22 @@ waking =
 pub same-end-waking : SameEndWaking
 unfolding rules
 same-end-waking = (waking, agreed waking, refl, refl)
+
+in-line : Premise sharing signalInLine signalBefore
+unfolding rules passesSignal mark marks
+in-line =
+    record {
+      is-valid = refl;
+      free = (refl, (refl, (refl, tt)));
+      same-calls = refl;
+      same-outers = List·Permᴰ·cons refl List·Permᴰ·nil;
+      first-in-turn = (refl, (refl, (refl, tt)));
+      then-in-turn = (refl, (refl, (refl, tt)));
+    }
+
+pub same-end-in-line : SameEndInLine
+unfolding rules
+same-end-in-line = (in-line, agreed in-line, refl, refl, refl)
 
 aside : Premise waits signalInside signalBehind
 unfolding rules passesSignal mark marks

@@ -14,12 +14,13 @@ use Rattle.rules.specs.Words.{isZero, byOperation}
 use Rattle.rules.specs.Events.{has, met, arrive}
 use Rattle.rules.specs.Tasks.{asStarted, asStopped, signalled, waited, asCleared}
 use Rattle.rules.specs.Timers.{later, isDue}
-use Rattle.rules.specs.Tables.{taskOf, changed}
+use Rattle.rules.specs.Regions.{heldByOther}
+use Rattle.rules.specs.Tables.{taskOf, regionOf, changed}
 use Rattle.rules.specs.Validity.{shaped}
 use Rattle.rules.specs.Refusals.{absent, missing, wrongState, refusal}
-use Rattle.rules.specs.Effects.{Effect, ringing, ticked, nothing, operations, effect}
+use Rattle.rules.specs.Effects.{Effect, handsOn, ringing, ticked, nothing, operations, effect}
 use Rattle.rules.specs.Step.{step}
-use Rattle.rules.proofs.Bools.{or-left, or-right, both, not-intro}
+use Rattle.rules.proofs.Bools.{_&_, or-left, or-right, both, not-intro}
 use Rattle.rules.proofs.Bits.{bit-of-zero}
 use Rattle.rules.proofs.Events.{has-arrived, has-other, has-cleared}
 use Rattle.theorems.proofs.Tasks.{signalled-arrived}
@@ -28,7 +29,7 @@ use Rattle.rules.proofs.Rules.{Parts}
 use Rattle.rules.proofs.ValidTasks.{row-right}
 use Rattle.rules.proofs.Validity.{parts-of, waits-unmet}
 use Rattle.rules.proofs.Refusals.{Accepted, accepted-facts}
-use Rattle.rules.proofs.Effects.{each-effect}
+use Rattle.rules.proofs.Effects.{either-effect, each-effect}
 use Rattle.theorems.specs.Kept.{afterAll}
 use Rattle.lasting_theorems.specs.Lasting.{arrivedAt, forgets, SignalArrives, EventStays, Remembered, NoSignalLost, NoneLeftWaiting}
 use Rattle.theorems.proofs.Rows.{below-room}
@@ -144,7 +145,10 @@ module _ (t : Table) (p : Parts t) (c : Call) where
     effect-stays : Accepted t c → forgets e i c ≡ false → arrivedAt (effect t c .table) e i ≡ true
     effect-stays =
         each-effect t c Stays
-        (start-stays, (stop-stays, (end-stays, (signal-stays, (wait-stays, (clear-stays, (untouched, (untouched, (untouched, (untouched, (untouched, (untouched, (tick-stays, tt)))))))))))))
+        (start-stays & stop-stays & end-stays & signal-stays & wait-stays & clear-stays
+        & (λ o k. either-effect (λ x. arrivedAt (x .table) e i ≡ true) (heldByOther (c .caller) (regionOf t (c .a))) h h)
+        & (λ o k. either-effect (λ x. arrivedAt (x .table) e i ≡ true) (handsOn (c .a) t) h h)
+        & untouched & untouched & untouched & untouched & tick-stays & tt)
         (λ n. untouched)
 
   effect-arrives : Accepted t c → c .operation ≡ SIGNAL → arrivedAt (effect t c .table) (c .a) (c .b) ≡ true

@@ -1,4 +1,5 @@
 -- The proofs of what `specs/` states.
+pub mod Holding
 pub mod Balanced
 pub mod Entered
 pub mod Lasting

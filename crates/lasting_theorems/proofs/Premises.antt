@@ -5,7 +5,7 @@ use Rattle.rules.specs.Events.{has, cleared}
 use Rattle.lasting_theorems.specs.Lasting.{forgets}
 use Rattle.lasting_theorems.specs.Delays.{disturbs}
 use Rattle.lasting_theorems.specs.Examples.{begun}
-use Rattle.lasting_theorems.specs.Premises.{arm, behindArm, SignalKept, DelayRings, RoutineProtected, HolderKept}
+use Rattle.lasting_theorems.specs.Premises.{arm, behindArm, SignalKept, DelayRings, RoutineProtected, HolderKept, BorrowsUrgency, HandsOver, OpenRoutine}
 use Rattle.lasting_theorems.proofs.Delays.{delay-kept}
 use Rattle.lasting_theorems.proofs.Examples.{rules}
 
@@ -24,3 +24,15 @@ routine-protected = (refl, refl, refl)
 pub holder-kept : HolderKept
 unfolding rules
 holder-kept = (refl, refl, (refl, (refl, (refl, (refl, (refl, tt))))), refl)
+
+pub borrows-urgency : BorrowsUrgency
+unfolding rules
+borrows-urgency = (refl, record { region = 0; awaited = refl; held = refl }, refl, refl, refl, refl)
+
+pub hands-over : HandsOver
+unfolding rules
+hands-over = (refl, refl)
+
+pub open-routine : OpenRoutine
+unfolding rules
+open-routine = (refl, refl, ((λ m. refl), ((λ m. refl), ((λ m. refl), tt))))

@@ -10,7 +10,8 @@ use Rattle.rules.specs.declared.Answer.{Answer}
 use Rattle.rules.specs.declared.Done.{Done}
 use Rattle.rules.specs.Numbers.{nobody, START, WAIT, ENTER, EXIT, SEND, ARM, DISARM}
 use Rattle.rules.specs.Tasks.{waiting}
-use Rattle.rules.specs.Tables.{taskOf, timerOf, withTimers}
+use Rattle.rules.specs.Regions.{handed}
+use Rattle.rules.specs.Tables.{taskOf, regionOf, timerOf, withTimers}
 use Rattle.rules.specs.Validity.{valid}
 use Rattle.rules.specs.Answers.{refused}
 use Rattle.rules.specs.Fresh.{freshTable}
@@ -18,9 +19,9 @@ use Rattle.rules.specs.Step.{step}
 use Rattle.theorems.specs.Happenings.{Outer, signal, tick, Happening, outside, own, run, calls, outers, callReplies, outerStatuses, InTurn, Free, Demand3By}
 use Rattle.theorems.specs.Kept.{afterAll}
 
--- "priorities 5, 5, 2, two regions, one queue of bound 2"
+-- "priorities 5, 5, 2, two regions, one queue of bound 2"; both regions closed
 abbrev pub begun : Table
-begun = freshTable 3 2 1 (5 ∷ 5 ∷ 2 ∷ []) (2 ∷ [])
+begun = freshTable 3 2 1 (5 ∷ 5 ∷ 2 ∷ []) (2 ∷ []) (0 ∷ 0 ∷ [])
 
 abbrev pub by : ℕ → ℕ → ℕ → ℕ → ℕ → Call
 by caller operation a b c = record { caller = caller; operation = operation; a = a; b = b; c = c }
@@ -90,6 +91,27 @@ SameEndWaking =
     × (run step waits wakesFirst ≡ run step waits wakesLater)
     × (taskOf waits 2 .state ≡ waiting)
     × (run step waits wakesFirst .elected ≡ 2)
+
+-- ---- a signal to a task that waits for an open region, or before it waits: an ENTER that suspends and an EXIT that hands on pass it
+
+-- region 0 is open and task 0's; task 2, more urgent, is elected
+abbrev pub sharing : Table
+sharing = afterAll (freshTable 3 2 1 (5 ∷ 5 ∷ 2 ∷ []) (2 ∷ []) (1 ∷ 0 ∷ [])) (by 0 ENTER 0 0 0 ∷ by 0 START 2 0 0 ∷ [])
+
+abbrev pub signalInLine : List Happening
+signalInLine = own (by 2 ENTER 0 0 0) ∷ outside (event 0 2) ∷ own (by 0 EXIT 0 0 0) ∷ own (by 2 SEND 0 7 3) ∷ []
+
+abbrev pub signalBefore : List Happening
+signalBefore = outside (event 0 2) ∷ own (by 2 ENTER 0 0 0) ∷ own (by 0 EXIT 0 0 0) ∷ own (by 2 SEND 0 7 3) ∷ []
+
+-- the ENTER gets 1, and behind the EXIT task 2 holds the region and is elected
+abbrev pub SameEndInLine : Type 0
+SameEndInLine =
+    Premise sharing signalInLine signalBefore
+    × (run step sharing signalInLine ≡ run step sharing signalBefore)
+    × (step sharing (by 2 ENTER 0 0 0) .answer .status ≡ 1)
+    × (regionOf (run step sharing signalInLine) 0 ≡ handed 2)
+    × (run step sharing signalInLine .elected ≡ 2)
 
 -- ---- "Demand 3 doesn't: who is displaced depends on the order": the same end, and the EXIT displaces task 0 or nobody
 

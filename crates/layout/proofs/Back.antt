@@ -14,7 +14,7 @@ use Rattle.rules.proofs.Counts.{below-at}
 use Rattle.packing.specs.Bytes.{halfWidth, wordWidth, bytes, numbers, spread}
 use Rattle.packing.specs.Timers.{timerWidth, unusedPlace}
 use Rattle.packing.proofs.RoundTrips.{isByte, spread-numbers, bytes-front, take-next, byte-at, timers-written}
-use Rattle.layout.specs.Layout.{priorityPlace, statePlace, arrivedPlace, listPlace, operatorPlace, holderPlace, entriesPlace, boundPlace, lengthPlace, elementPlace, criterionPlace, ticksPlace, timersPlace, blockSize, part, unpacked, packed, unusedZero}
+use Rattle.layout.specs.Layout.{priorityPlace, statePlace, arrivedPlace, listPlace, operatorPlace, awaitsPlace, holderPlace, entriesPlace, openedPlace, boundPlace, lengthPlace, elementPlace, criterionPlace, ticksPlace, timersPlace, blockSize, part, unpacked, packed, unusedZero}
 
 -- a list of which every entry is a byte
 pub all-bytes : (bs : List ℕ) → ((i : ℕ) → getD bs i 0 < 256) → every isByte bs ≡ true
@@ -48,8 +48,10 @@ module _ (block : List ℕ) (small : every isByte block ≡ true) (size : length
       (take-next elementPlace (wordWidth * storeSize) block _ _
       (take-next lengthPlace queueRoom block _ _
       (take-next boundPlace queueRoom block _ _
+      (take-next openedPlace regionRoom block _ _
       (take-next entriesPlace regionRoom block _ _
       (take-next holderPlace regionRoom block _ _
+      (take-next awaitsPlace taskRoom block _ _
       (take-next operatorPlace taskRoom block _ _
       (take-next listPlace (halfWidth * taskRoom) block _ _
       (take-next arrivedPlace (halfWidth * taskRoom) block _ _
@@ -63,8 +65,10 @@ module _ (block : List ℕ) (small : every isByte block ≡ true) (size : length
       (column arrivedPlace halfWidth taskRoom (omega arith)))
       (column listPlace halfWidth taskRoom (omega arith)))
       (column operatorPlace 1 taskRoom (omega arith)))
+      (column awaitsPlace 1 taskRoom (omega arith)))
       (column holderPlace 1 regionRoom (omega arith)))
       (column entriesPlace 1 regionRoom (omega arith)))
+      (column openedPlace 1 regionRoom (omega arith)))
       (column boundPlace 1 queueRoom (omega arith)))
       (column lengthPlace 1 queueRoom (omega arith)))
       (column elementPlace wordWidth storeSize (omega arith)))

@@ -32,6 +32,8 @@ valid-sized t v =
       element-long = eqb-true _ _ (e .1 .1 .1 .1 .1 .1 .1 .1 .1 .0);
       criterion-long = eqb-true _ _ (e .1 .1 .1 .1 .1 .1 .1 .1 .1 .1 .0);
       timers-long = eqb-true _ _ (e .1 .1 .1 .1 .1 .1 .1 .1 .1 .1 .1 .0);
+      awaits-long = eqb-true _ _ (e .1 .1 .1 .1 .1 .1 .1 .1 .1 .1 .1 .1 .0);
+      opened-long = eqb-true _ _ (e .1 .1 .1 .1 .1 .1 .1 .1 .1 .1 .1 .1 .1 .0);
     }
 
 -- after an accepted call the table is valid, after a refused one it is what it was

@@ -11,7 +11,7 @@ use Rattle.tables.specs.declared.front.Front.{Front}
 use Rattle.tables.specs.Fronts.{whole, frontOf}
 use Rattle.packing.specs.Bytes.{halfWidth, wordWidth, taken}
 use Rattle.packing.specs.Timers.{timersTaken}
-use Rattle.layout.specs.Layout.{priorityPlace, statePlace, arrivedPlace, listPlace, operatorPlace, holderPlace, entriesPlace, boundPlace, lengthPlace, elementPlace, criterionPlace, ticksPlace, timersPlace, blockSize, part, unpacked}
+use Rattle.layout.specs.Layout.{priorityPlace, statePlace, arrivedPlace, listPlace, operatorPlace, awaitsPlace, holderPlace, entriesPlace, openedPlace, boundPlace, lengthPlace, elementPlace, criterionPlace, ticksPlace, timersPlace, blockSize, part, unpacked}
 use Rattle.layout.specs.Fronts.{frontTaken}
 
 module _ (block : List ℕ) (size : length block ≡ blockSize) where
@@ -25,14 +25,16 @@ module _ (block : List ℕ) (size : length block ≡ blockSize) where
   unfolding timersTaken unpacked
   filled-timers rs e = e ∙ rw size
 
-  unpacked-is : (priority state arrived list operator holder entries bound lengths element criterion ticks : List ℕ) (timers : List Timer)
+  unpacked-is : (priority state arrived list operator awaits holder entries opened bound lengths element criterion ticks : List ℕ) (timers : List Timer)
       → priority ≡ taken 1 priorityPlace block (replicate taskRoom 0)
       → state ≡ taken 1 statePlace block (replicate taskRoom 0)
       → arrived ≡ taken halfWidth arrivedPlace block (replicate taskRoom 0)
       → list ≡ taken halfWidth listPlace block (replicate taskRoom 0)
       → operator ≡ taken 1 operatorPlace block (replicate taskRoom 0)
+      → awaits ≡ taken 1 awaitsPlace block (replicate taskRoom 0)
       → holder ≡ taken 1 holderPlace block (replicate regionRoom 0)
       → entries ≡ taken 1 entriesPlace block (replicate regionRoom 0)
+      → opened ≡ taken 1 openedPlace block (replicate regionRoom 0)
       → bound ≡ taken 1 boundPlace block (replicate queueRoom 0)
       → lengths ≡ taken 1 lengthPlace block (replicate queueRoom 0)
       → element ≡ taken wordWidth elementPlace block (replicate storeSize 0)
@@ -49,8 +51,10 @@ module _ (block : List ℕ) (size : length block ≡ blockSize) where
         arrived = arrived;
         list = list;
         operator = operator;
+        awaits = awaits;
         holder = holder;
         entries = entries;
+        opened = opened;
         bound = bound;
         length = lengths;
         element = element;
@@ -60,7 +64,7 @@ module _ (block : List ℕ) (size : length block ≡ blockSize) where
       }
       ≡ unpacked block
   unfolding unpacked
-  unpacked-is priority state arrived list operator holder entries bound lengths element criterion ticks timers a b c d e f n g h i j k l =
+  unpacked-is priority state arrived list operator awaits holder entries opened bound lengths element criterion ticks timers a b c d e w f n o g h i j k l =
       λ x.
       record {
         tasks = getD block 0 0;
@@ -72,8 +76,10 @@ module _ (block : List ℕ) (size : length block ≡ blockSize) where
         arrived = filled arrivedPlace halfWidth taskRoom arrived refl c x;
         list = filled listPlace halfWidth taskRoom list refl d x;
         operator = filled operatorPlace 1 taskRoom operator refl e x;
+        awaits = filled awaitsPlace 1 taskRoom awaits refl w x;
         holder = filled holderPlace 1 regionRoom holder refl f x;
         entries = filled entriesPlace 1 regionRoom entries refl n x;
+        opened = filled openedPlace 1 regionRoom opened refl o x;
         bound = filled boundPlace 1 queueRoom bound refl g x;
         length = filled lengthPlace 1 queueRoom lengths refl h x;
         element = filled elementPlace wordWidth storeSize element refl i x;
@@ -88,7 +94,7 @@ module _ (block : List ℕ) (size : length block ≡ blockSize) where
   unfolding frontTaken
   front-whole =
       ap frontOf
-      (unpacked-is block size _ _ _ _ _ _ _ _ _ _ _ _ _ refl refl refl refl refl refl refl refl refl refl refl refl refl)
+      (unpacked-is block size _ _ _ _ _ _ _ _ _ _ _ _ _ _ _ refl refl refl refl refl refl refl refl refl refl refl refl refl refl refl)
 
   -- an array of the right length, whatever stood there, filled from a place on
   refilled : (place width count : ℕ) (old ns : List ℕ) → leb (place + width * count) blockSize ≡ true → length old ≡ count

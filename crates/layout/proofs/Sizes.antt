@@ -8,7 +8,7 @@ use Rattle.rules.specs.Numbers.{taskRoom, regionRoom, queueRoom, storeSize, tim
 use Rattle.packing.specs.Bytes.{halfWidth, wordWidth}
 use Rattle.packing.specs.Timers.{timerWidth, timersIn}
 use Rattle.packing.proofs.RoundTrips.{numbers-length}
-use Rattle.layout.specs.Layout.{priorityPlace, statePlace, arrivedPlace, listPlace, operatorPlace, holderPlace, entriesPlace, boundPlace, lengthPlace, elementPlace, criterionPlace, timersPlace, unpacked}
+use Rattle.layout.specs.Layout.{priorityPlace, statePlace, arrivedPlace, listPlace, operatorPlace, awaitsPlace, holderPlace, entriesPlace, openedPlace, boundPlace, lengthPlace, elementPlace, criterionPlace, timersPlace, unpacked}
 
 -- the lengths that the types of the table's arrays give
 pub record Sized (t : Table) : Type 0 where
@@ -17,8 +17,10 @@ pub record Sized (t : Table) : Type 0 where
   pub arrived-long : length (t .arrived) ≡ taskRoom
   pub list-long : length (t .list) ≡ taskRoom
   pub operator-long : length (t .operator) ≡ taskRoom
+  pub awaits-long : length (t .awaits) ≡ taskRoom
   pub holder-long : length (t .holder) ≡ regionRoom
   pub entries-long : length (t .entries) ≡ regionRoom
+  pub opened-long : length (t .opened) ≡ regionRoom
   pub bound-long : length (t .bound) ≡ queueRoom
   pub length-long : length (t .length) ≡ queueRoom
   pub element-long : length (t .element) ≡ storeSize
@@ -44,8 +46,10 @@ unpacked-sized block =
       arrived-long = numbers-length halfWidth taskRoom (drop arrivedPlace block);
       list-long = numbers-length halfWidth taskRoom (drop listPlace block);
       operator-long = numbers-length 1 taskRoom (drop operatorPlace block);
+      awaits-long = numbers-length 1 taskRoom (drop awaitsPlace block);
       holder-long = numbers-length 1 regionRoom (drop holderPlace block);
       entries-long = numbers-length 1 regionRoom (drop entriesPlace block);
+      opened-long = numbers-length 1 regionRoom (drop openedPlace block);
       bound-long = numbers-length 1 queueRoom (drop boundPlace block);
       length-long = numbers-length 1 queueRoom (drop lengthPlace block);
       element-long = numbers-length wordWidth storeSize (drop elementPlace block);

@@ -15,7 +15,7 @@ use Rattle.tables.specs.Fronts.{whole}
 use Rattle.packing.specs.Bytes.{halfWidth, wordWidth, bytes, spread, over, put}
 use Rattle.packing.specs.Timers.{timerWidth, timersBytes, timersPut}
 use Rattle.packing.proofs.RoundTrips.{spread-length, timers-length}
-use Rattle.layout.specs.Layout.{priorityPlace, statePlace, arrivedPlace, listPlace, operatorPlace, holderPlace, entriesPlace, boundPlace, lengthPlace, elementPlace, criterionPlace, ticksPlace, timersPlace, blockSize, packed}
+use Rattle.layout.specs.Layout.{priorityPlace, statePlace, arrivedPlace, listPlace, operatorPlace, awaitsPlace, holderPlace, entriesPlace, openedPlace, boundPlace, lengthPlace, elementPlace, criterionPlace, ticksPlace, timersPlace, blockSize, packed}
 use Rattle.layout.proofs.Sizes.{Sized}
 use Rattle.layout.specs.Heads.{headPut}
 use Rattle.layout.specs.Wholes.{tailPut, wholePut}
@@ -75,8 +75,10 @@ headOf f =
     ++ spread halfWidth (f .arrived)
     ++ spread halfWidth (f .list)
     ++ spread 1 (f .operator)
+    ++ spread 1 (f .awaits)
     ++ spread 1 (f .holder)
     ++ spread 1 (f .entries)
+    ++ spread 1 (f .opened)
     ++ spread 1 (f .bound)
     ++ spread 1 (f .length)
 
@@ -99,9 +101,11 @@ head-next f es cs old s size =
     let arrived = column-next old size arrivedPlace halfWidth taskRoom (f .arrived) _ state (s .arrived-long) refl refl in
     let list = column-next old size listPlace halfWidth taskRoom (f .list) _ arrived (s .list-long) refl refl in
     let operator = column-next old size operatorPlace 1 taskRoom (f .operator) _ list (s .operator-long) refl refl in
-    let holder = column-next old size holderPlace 1 regionRoom (f .holder) _ operator (s .holder-long) refl refl in
+    let awaits = column-next old size awaitsPlace 1 taskRoom (f .awaits) _ operator (s .awaits-long) refl refl in
+    let holder = column-next old size holderPlace 1 regionRoom (f .holder) _ awaits (s .holder-long) refl refl in
     let entries = column-next old size entriesPlace 1 regionRoom (f .entries) _ holder (s .entries-long) refl refl in
-    let bound = column-next old size boundPlace 1 queueRoom (f .bound) _ entries (s .bound-long) refl refl in
+    let opened = column-next old size openedPlace 1 regionRoom (f .opened) _ entries (s .opened-long) refl refl in
+    let bound = column-next old size boundPlace 1 queueRoom (f .bound) _ opened (s .bound-long) refl refl in
     column-next old size lengthPlace 1 queueRoom (f .length) _ bound (s .length-long) refl refl
 
 pub whole-put : (f : Front) (es cs block : List ℕ) → Sized (whole f es cs) → length block ≡ blockSize → wholePut f es cs block ≡ packed (whole f es cs)

@@ -42,9 +42,9 @@ abbrev pub callOf : ℕ → ℕ → ℕ → ℕ → ℕ → Call
 callOf caller operation a b c = record { caller = caller; operation = operation; a = a; b = b; c = c }
 
 -- "Make fresh looks only at the size; its 20 leaves the block all 0."
-unfoldable pub freshBlock : List ℕ → ℕ → ℕ → ℕ → List ℕ → List ℕ → Stored
-freshBlock block tasks regions queues priorities bounds =
-    cond (eqb (length block) blockSize) (stored (fresh tasks regions queues priorities bounds)) (untouched block)
+unfoldable pub freshBlock : List ℕ → ℕ → ℕ → ℕ → List ℕ → List ℕ → List ℕ → Stored
+freshBlock block tasks regions queues priorities bounds marks =
+    cond (eqb (length block) blockSize) (stored (fresh tasks regions queues priorities bounds marks)) (untouched block)
 
 unfoldable pub callBlock : List ℕ → Call → Stored
 callBlock block c = cond (isTable block) (stored (step (unpacked block) c)) (untouched block)

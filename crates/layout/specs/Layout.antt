@@ -28,14 +28,20 @@ listPlace = arrivedPlace + halfWidth * taskRoom
 abbrev pub operatorPlace : ℕ
 operatorPlace = listPlace + halfWidth * taskRoom
 
+abbrev pub awaitsPlace : ℕ
+awaitsPlace = operatorPlace + taskRoom
+
 abbrev pub holderPlace : ℕ
-holderPlace = operatorPlace + taskRoom
+holderPlace = awaitsPlace + taskRoom
 
 abbrev pub entriesPlace : ℕ
 entriesPlace = holderPlace + regionRoom
 
+abbrev pub openedPlace : ℕ
+openedPlace = entriesPlace + regionRoom
+
 abbrev pub boundPlace : ℕ
-boundPlace = entriesPlace + regionRoom
+boundPlace = openedPlace + regionRoom
 
 abbrev pub lengthPlace : ℕ
 lengthPlace = boundPlace + queueRoom
@@ -52,7 +58,7 @@ ticksPlace = criterionPlace + storeSize
 abbrev pub timersPlace : ℕ
 timersPlace = ticksPlace + wordWidth
 
--- "one stated size": 3192 bytes
+-- "one stated size": 3272 bytes
 abbrev pub blockSize : ℕ
 blockSize = timersPlace + timerWidth * timerRoom
 
@@ -74,8 +80,10 @@ unpacked block =
       arrived = part arrivedPlace halfWidth taskRoom block;
       list = part listPlace halfWidth taskRoom block;
       operator = part operatorPlace 1 taskRoom block;
+      awaits = part awaitsPlace 1 taskRoom block;
       holder = part holderPlace 1 regionRoom block;
       entries = part entriesPlace 1 regionRoom block;
+      opened = part openedPlace 1 regionRoom block;
       bound = part boundPlace 1 queueRoom block;
       length = part lengthPlace 1 queueRoom block;
       element = part elementPlace wordWidth storeSize block;
@@ -96,8 +104,10 @@ packed t =
     ++ spread halfWidth (t .arrived)
     ++ spread halfWidth (t .list)
     ++ spread 1 (t .operator)
+    ++ spread 1 (t .awaits)
     ++ spread 1 (t .holder)
     ++ spread 1 (t .entries)
+    ++ spread 1 (t .opened)
     ++ spread 1 (t .bound)
     ++ spread 1 (t .length)
     ++ spread wordWidth (t .element)

@@ -19,11 +19,15 @@ pub(crate) const LIST: usize = ARRIVED + HALF_WIDTH * TASKS;
 
 pub(crate) const OPERATOR: usize = LIST + HALF_WIDTH * TASKS;
 
-pub(crate) const HOLDER: usize = OPERATOR + TASKS;
+pub(crate) const AWAITS: usize = OPERATOR + TASKS;
+
+pub(crate) const HOLDER: usize = AWAITS + TASKS;
 
 pub(crate) const ENTRIES: usize = HOLDER + REGIONS;
 
-pub(crate) const BOUND: usize = ENTRIES + REGIONS;
+pub(crate) const OPENED: usize = ENTRIES + REGIONS;
+
+pub(crate) const BOUND: usize = OPENED + REGIONS;
 
 pub(crate) const LENGTH: usize = BOUND + QUEUES;
 

@@ -1,5 +1,6 @@
 // The table read from a block: the front, the store, and whether the unused bytes are 0.
 use crate::place::ARRIVED;
+use crate::place::AWAITS;
 use crate::place::BOUND;
 use crate::place::CRITERION;
 use crate::place::ELEMENT;
@@ -7,6 +8,7 @@ use crate::place::ENTRIES;
 use crate::place::HOLDER;
 use crate::place::LENGTH;
 use crate::place::LIST;
+use crate::place::OPENED;
 use crate::place::OPERATOR;
 use crate::place::PRIORITY;
 use crate::place::STATE;
@@ -69,10 +71,14 @@ pub fn front_in(block: &[u8]) -> Front
     take_halves(block, LIST, &mut list);
     let mut operator = [0u8; TASKS];
     take_bytes(block, OPERATOR, &mut operator);
+    let mut awaits = [0u8; TASKS];
+    take_bytes(block, AWAITS, &mut awaits);
     let mut holder = [0u8; REGIONS];
     take_bytes(block, HOLDER, &mut holder);
     let mut entries = [0u8; REGIONS];
     take_bytes(block, ENTRIES, &mut entries);
+    let mut opened = [0u8; REGIONS];
+    take_bytes(block, OPENED, &mut opened);
     let mut bound = [0u8; QUEUES];
     take_bytes(block, BOUND, &mut bound);
     let mut lengths = [0u8; QUEUES];
@@ -95,8 +101,10 @@ pub fn front_in(block: &[u8]) -> Front
         arrived: arrived,
         list: list,
         operator: operator,
+        awaits: awaits,
         holder: holder,
         entries: entries,
+        opened: opened,
         bound: bound,
         length: lengths,
         ticks: counter,

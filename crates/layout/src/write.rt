@@ -1,5 +1,6 @@
 // The table written to a block: the whole of it, or all but the store.
 use crate::place::ARRIVED;
+use crate::place::AWAITS;
 use crate::place::BOUND;
 use crate::place::CRITERION;
 use crate::place::ELEMENT;
@@ -7,6 +8,7 @@ use crate::place::ENTRIES;
 use crate::place::HOLDER;
 use crate::place::LENGTH;
 use crate::place::LIST;
+use crate::place::OPENED;
 use crate::place::OPERATOR;
 use crate::place::PRIORITY;
 use crate::place::STATE;
@@ -35,14 +37,16 @@ fn put_columns<'a>(
     arrived: &'a [u16],
     list: &'a [u16],
     operator: &'a [u8],
+    awaits: &'a [u8],
 )
-    ensures { λ _. ⌜ now (block .exit) ≡ columnsPut (now (priority .entry)) (now (state .entry)) (now (arrived .entry)) (now (list .entry)) (now (operator .entry)) (now (block .entry)) ⌝ }
+    ensures { λ _. ⌜ now (block .exit) ≡ columnsPut (now (priority .entry)) (now (state .entry)) (now (arrived .entry)) (now (list .entry)) (now (operator .entry)) (now (awaits .entry)) (now (block .entry)) ⌝ }
 {
     put_bytes(block, PRIORITY, priority);
     put_bytes(block, STATE, state);
     put_halves(block, ARRIVED, arrived);
     put_halves(block, LIST, list);
     put_bytes(block, OPERATOR, operator);
+    put_bytes(block, AWAITS, awaits);
 }
 
 // The regions, and the bounds and lengths of the queues.
@@ -50,13 +54,15 @@ fn put_heads<'a>(
     block: &mut [u8],
     holder: &'a [u8],
     entries: &'a [u8],
+    opened: &'a [u8],
     bound: &'a [u8],
     lengths: &'a [u8],
 )
-    ensures { λ _. ⌜ now (block .exit) ≡ headsPut (now (holder .entry)) (now (entries .entry)) (now (bound .entry)) (now (lengths .entry)) (now (block .entry)) ⌝ }
+    ensures { λ _. ⌜ now (block .exit) ≡ headsPut (now (holder .entry)) (now (entries .entry)) (now (opened .entry)) (now (bound .entry)) (now (lengths .entry)) (now (block .entry)) ⌝ }
 {
     put_bytes(block, HOLDER, holder);
     put_bytes(block, ENTRIES, entries);
+    put_bytes(block, OPENED, opened);
     put_bytes(block, BOUND, bound);
     put_bytes(block, LENGTH, lengths);
 }
@@ -74,8 +80,9 @@ fn put_head(block: &mut [u8], f: Front)
         &f.arrived,
         &f.list,
         &f.operator,
+        &f.awaits,
     );
-    put_heads(block, &f.holder, &f.entries, &f.bound, &f.length);
+    put_heads(block, &f.holder, &f.entries, &f.opened, &f.bound, &f.length);
 }
 
 // All that stands behind it.

@@ -14,11 +14,11 @@ use Rattle.rules.specs.declared.Table.{Table}
 use Rattle.rules.specs.declared.Call.{Call}
 use Rattle.rules.specs.Numbers.{queueRoom, WAIT, ENTER, EXIT, SEND, RETRIEVE, ARM, DISARM, TICK}
 use Rattle.rules.specs.Words.{isZero, every, Reason, when, first}
-use Rattle.rules.specs.Regions.{occupied, heldBy}
+use Rattle.rules.specs.Regions.{heldBy}
 use Rattle.rules.specs.Queues.{noneFits}
 use Rattle.rules.specs.Tables.{regionOf, boundOf, lengthOf, queueOf}
 use Rattle.rules.specs.Validity.{valid, countsInRange}
-use Rattle.rules.specs.Refusals.{missing, badOperator, othersAt, wrongState, leaves, entriesFull, reasons, refusal}
+use Rattle.rules.specs.Refusals.{missing, badOperator, othersAt, wrongState, leaves, inside, entriesFull, closesCircle, stopsHolder, reasons, refusal}
 use Rattle.rules.proofs.Bools.{given, or-left}
 use Rattle.rules.proofs.Effects.{upto}
 use Rattle.rules.proofs.Queues.{queue-length}
@@ -65,9 +65,23 @@ unfolding wrongTask
 wrong-queue states timers c l h =
     wrong-below states timers c h ∙ (let past : 4 ≤ c .operation = omega arith in rw List·getD-eq-default)
 
+-- behind EXIT nobody is held off by a region: 16, 24, 25
 leaves-past : (c : Call) → EXIT < c .operation → leaves c ≡ false
 unfolding leaves
 leaves-past c h = let past : 5 ≤ c .operation = omega arith in rw List·getD-eq-default
+
+inside-past : (opened holders : List ℕ) (c : Call) → EXIT < c .operation → inside opened holders c ≡ false
+unfolding inside
+inside-past opened holders c h =
+    rw (leaves-past c h, ne-eqb (c .operation) ENTER (omega arith), ne-eqb (c .operation) WAIT (omega arith)) refl
+
+circle-past : (awaits holders : List ℕ) (c : Call) → EXIT < c .operation → closesCircle awaits holders c ≡ false
+unfolding closesCircle
+circle-past awaits holders c h = rw (ne-eqb (c .operation) ENTER (omega arith)) refl
+
+stops-past : (opened holders : List ℕ) (c : Call) → EXIT < c .operation → stopsHolder opened holders c ≡ false
+unfolding stopsHolder
+stops-past opened holders c h = let past : 3 ≤ c .operation = omega arith in rw List·getD-eq-default
 
 -- ---- 17 and 18 by places of the store, of a queue that exists
 
@@ -117,11 +131,13 @@ late t c =
     when 14 (missing (t .tasks) (t .regions) (t .queues) c)
     ∷ when 19 (eqb (c .operation) WAIT && badOperator (c .b))
     ∷ when 15 (wrongState (t .state) (t .timers) c)
-    ∷ when 16 (leaves c && occupied (t .holder))
+    ∷ when 16 (inside (t .opened) (t .holder) c)
     ∷ when 17 (eqb (c .operation) SEND && leb (boundOf t (c .a)) (length (queueOf t (c .a))))
     ∷ when 18 (eqb (c .operation) RETRIEVE && noneFits (c .c) (queueOf t (c .a)))
-    ∷ when 22 (eqb (c .operation) ENTER && entriesFull (t .entries) (c .a))
+    ∷ when 22 (eqb (c .operation) ENTER && entriesFull (regionOf t (c .a)) (c .caller))
     ∷ when 23 (eqb (c .operation) EXIT && not (heldBy (c .caller) (regionOf t (c .a))))
+    ∷ when 24 (closesCircle (t .awaits) (t .holder) c)
+    ∷ when 25 (stopsHolder (t .opened) (t .holder) c)
     ∷ []
 
 refusal-is : (t : Table) (c : Call) (known : Bool) → known ≡ valid t → (early : ℕ) → early ≡ first (earlyReasons known (t .elected) c)
@@ -163,11 +179,13 @@ module _ (f : Front) (cs : List ℕ) (c : Call) (es : List ℕ) (v : valid (whol
           m,
           ne-eqb (c .operation) WAIT (omega arith),
           wrong-timer (f .state) (f .timers) c h,
-          leaves-past c (omega arith),
+          inside-past (f .opened) (f .holder) c (omega arith),
           ne-eqb (c .operation) SEND (omega arith),
           ne-eqb (c .operation) RETRIEVE (omega arith),
           ne-eqb (c .operation) ENTER (omega arith),
           ne-eqb (c .operation) EXIT (omega arith),
+          circle-past (f .awaits) (f .holder) c (omega arith),
+          stops-past (f .opened) (f .holder) c (omega arith),
         )
         p
 
@@ -179,11 +197,13 @@ module _ (f : Front) (cs : List ℕ) (c : Call) (es : List ℕ) (v : valid (whol
           m,
           ne-eqb (c .operation) WAIT (omega arith),
           wrong-queue (f .state) (f .timers) c l (omega arith),
-          leaves-past c l,
+          inside-past (f .opened) (f .holder) c l,
           ← full-same t v c m,
           ← lacking-same t v c m,
           ne-eqb (c .operation) ENTER (omega arith),
           ne-eqb (c .operation) EXIT (omega arith),
+          circle-past (f .awaits) (f .holder) c l,
+          stops-past (f .opened) (f .holder) c l,
         )
         p
 

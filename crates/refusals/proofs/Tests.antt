@@ -1,16 +1,19 @@
 -- Tests by operation: the code's flags, and the definitions' lists with an entry for each operation.
-use Prim.Native.Nat.{ℕ, zero, suc, _<_, _≤_}
-use mathlib.Core.Path.{_≡_, refl, _∙_}
+use Prim.Native.Nat.{ℕ, zero, suc, _-_, _<_, _≤_}
+use mathlib.Core.Path.{_≡_, refl, sym, _∙_}
 use mathlib.Core.Logic.{_≢_}
 use mathlib.Core.Bool.{Bool, true, false, not, _&&_, _||_, or-false}
 use mathlib.Core.List.{List, [], _∷_}
 use native.Mathlib.Omega.{arith}
 use lib.Dec.{eqb}
 use lib.ListN.{getD, List·getD-eq-default}
-use borrow.Author.Tests.{ne-eqb}
+use borrow.Author.Tests.{eq-eqb, ne-eqb}
 use Rattle.rules.specs.declared.Call.{Call}
+use Rattle.rules.specs.Numbers.{taskRoom, STOP, END, ENTER}
 use Rattle.rules.specs.Words.{byOperation}
-use Rattle.rules.specs.Refusals.{missing}
+use Rattle.rules.specs.Urgency.{holdsOpen}
+use Rattle.rules.specs.Circles.{meets}
+use Rattle.rules.specs.Refusals.{missing, suspends, closesCircle, stopsHolder}
 use Rattle.refusals.specs.ByKind.{wrongTask}
 
 -- a number past the named ones is none of them
@@ -60,3 +63,42 @@ Not (suc n) k = Not n k × (k ≡ n → ⊥)
 pub none-below : (n k : ℕ) → Not n k → n ≤ k
 none-below zero k h = omega arith
 none-below (suc n) k h = let l = none-below n k (h .0) in let other : k ≢ n = h .1 in omega arith
+
+-- ---- 24 and 25, by the ways that the code takes
+
+module _ (awaits holders : List ℕ) (c : Call) where
+  pub circle-free : {h : ℕ} → h ≡ getD holders (c .a) 0 → h ≡ 0 → false ≡ closesCircle awaits holders c
+  unfolding closesCircle
+  circle-free e z = rw (eq-eqb (getD holders (c .a) 0) 0 (sym e ∙ z)) (go (eqb (c .operation) ENTER))
+    where
+      go : (b : Bool) → false ≡ ((b && false) && meets awaits holders taskRoom (c .caller) (getD holders (c .a) 0 - 1))
+      go true = refl
+      go false = refl
+
+  pub circle-none : suspends holders c ≡ false → false ≡ closesCircle awaits holders c
+  unfolding closesCircle
+  circle-none e = rw e refl
+
+  pub circle-meets : {h : ℕ} → h ≡ getD holders (c .a) 0 → suspends holders c ≡ true → {r : Bool} → r ≡ meets awaits holders taskRoom (c .caller) (h - 1)
+      → r ≡ closesCircle awaits holders c
+  unfolding closesCircle
+  circle-meets e s m = rw (s, ← e) m
+
+module _ (opened holders : List ℕ) (c : Call) where
+  pub stops-stop : c .operation ≡ STOP → {r : Bool} → r ≡ holdsOpen opened holders (c .a) → r ≡ stopsHolder opened holders c
+  unfolding stopsHolder
+  stops-stop e h = rw e h
+
+  pub stops-end : c .operation ≡ END → {r : Bool} → r ≡ holdsOpen opened holders (c .caller) → r ≡ stopsHolder opened holders c
+  unfolding stopsHolder
+  stops-end e h = rw e h
+
+  pub stops-none : c .operation ≢ STOP → c .operation ≢ END → false ≡ stopsHolder opened holders c
+  unfolding stopsHolder
+  stops-none n m = go (c .operation) refl
+    where
+      go : (k : ℕ) → c .operation ≡ k → false ≡ byOperation false k (false ∷ holdsOpen opened holders (c .a) ∷ holdsOpen opened holders (c .caller) ∷ [])
+      go zero e = refl
+      go (suc zero) e = absurd (n e)
+      go (suc (suc zero)) e = absurd (m e)
+      go (suc (suc (suc k))) e = refl

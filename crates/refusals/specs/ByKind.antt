@@ -6,11 +6,10 @@ use lib.Dec.{eqb, ltb, leb}
 use lib.ListN.{getD}
 use Rattle.rules.specs.declared.Timer.{Timer}
 use Rattle.rules.specs.declared.Call.{Call}
-use Rattle.rules.specs.Numbers.{queueRoom, WAIT, ENTER, EXIT, SEND, RETRIEVE, TICK}
-use Rattle.rules.specs.Words.{byOperation, Reason, when}
-use Rattle.rules.specs.Regions.{occupied}
+use Rattle.rules.specs.Numbers.{queueRoom, mostEntries, WAIT, ENTER, EXIT, SEND, RETRIEVE, TICK}
+use Rattle.rules.specs.Words.{names, byOperation, Reason, when}
 use Rattle.rules.specs.Queues.{firstPlace}
-use Rattle.rules.specs.Refusals.{badOperator, stoppedAt, othersAt, leaves, entriesFull}
+use Rattle.rules.specs.Refusals.{badOperator, stoppedAt, othersAt, inside, closesCircle, stopsHolder}
 use Rattle.tables.specs.declared.front.Front.{Front}
 use Rattle.queues.specs.Places.{placeIn}
 
@@ -20,7 +19,11 @@ wrongTask states c =
     byOperation false (c .operation)
     (not (stoppedAt states (c .a)) ∷ stoppedAt states (c .a) ∷ false ∷ stoppedAt states (c .b) ∷ [])
 
--- 23 by the holder's entry
+-- 22 and 23 by the holder's entry
+abbrev pub deepest : List ℕ → List ℕ → Call → Bool
+deepest holders entries c =
+    eqb (c .operation) ENTER && (names (getD holders (c .a) 0) (c .caller) && eqb (getD entries (c .a) 0) mostEntries)
+
 abbrev pub notHeld : List ℕ → Call → Bool
 notHeld holders c = eqb (c .operation) EXIT && not (eqb (getD holders (c .a) 0) (suc (c .caller)))
 
@@ -28,9 +31,11 @@ abbrev pub taskReasons : Front → Call → List Reason
 taskReasons f c =
     when 19 (eqb (c .operation) WAIT && badOperator (c .b))
     ∷ when 15 (wrongTask (f .state) c)
-    ∷ when 16 (leaves c && occupied (f .holder))
-    ∷ when 22 (eqb (c .operation) ENTER && entriesFull (f .entries) (c .a))
+    ∷ when 16 (inside (f .opened) (f .holder) c)
+    ∷ when 22 (deepest (f .holder) (f .entries) c)
     ∷ when 23 (notHeld (f .holder) c)
+    ∷ when 24 (closesCircle (f .awaits) (f .holder) c)
+    ∷ when 25 (stopsHolder (f .opened) (f .holder) c)
     ∷ []
 
 -- 17 by the queue's length as it is stored

@@ -4,6 +4,7 @@ mod first_reason;
 mod numbers;
 mod order;
 mod queue_reasons;
+mod region_reasons;
 mod reported;
 mod task_reasons;
 

@@ -2,7 +2,7 @@
 use Prim.Native.Nat.{ℕ, suc, _+_, _<_, _≤_}
 use mathlib.Core.Path.{_≡_, refl}
 use mathlib.Core.Logic.{⊎-elim}
-use mathlib.Core.Bool.{Bool, true, false, cond, _||_}
+use mathlib.Core.Bool.{Bool, true, false, cond, _&&_, _||_}
 use mathlib.Core.List.{List, [], _∷_}
 use native.Mathlib.Numerals.{add-one}
 use native.Mathlib.Omega.{arith}
@@ -14,17 +14,19 @@ use borrow.Author.Tests.{eqb-true}
 use Rattle.rules.specs.Numbers.{regionRoom}
 use Rattle.rules.specs.Words.{isZero}
 use Rattle.rules.specs.Regions.{held}
+use Rattle.rules.specs.Urgency.{isOpen, closedHolders}
 use Rattle.rules.proofs.Bools.{and-right, or-cases, or-keeps}
 use Rattle.rules.proofs.Counts.{below-at}
+use Rattle.rules.proofs.States.{closed-at, length-closed}
 use Rattle.rules.specs.Checks.{regionFits, regionsRight}
 use Rattle.regions.specs.Bits.{orAll}
 
 -- ---- the loop
 
 module _ (i bits : ℕ) (holders : List ℕ) {v : ℕ} where
-  pub or-again : i < length holders → orAll bits (drop i holders) ≡ v → orAll (bitOr bits (getD holders i 0)) (drop (i + 1) holders) ≡ v
+  pub or-again : {h : ℕ} → h ≡ getD holders i 0 → i < length holders → orAll bits (drop i holders) ≡ v → orAll (bitOr bits h) (drop (i + 1) holders) ≡ v
   unfolding orAll
-  or-again h k = rw add-one (rw (drop-cons holders i 0) at k)
+  or-again e l k = rw (add-one, e) (rw (drop-cons holders i 0) at k)
 
   pub or-end : length holders ≤ i → orAll bits (drop i holders) ≡ v → bits ≡ v
   unfolding orAll
@@ -32,7 +34,7 @@ module _ (i bits : ℕ) (holders : List ℕ) {v : ℕ} where
 
 -- ---- where every entry is 0 or m
 
-abbrev Alike : ℕ → List ℕ → Type 0
+abbrev pub Alike : ℕ → List ℕ → Type 0
 Alike m hs = (i : ℕ) → i < length hs → (isZero (getD hs i 0) || eqb (getD hs i 0) m) ≡ true
 
 -- the bits of m and of all of them are m,
@@ -57,14 +59,28 @@ or-held m (h ∷ hs) a = go (isZero h) refl (or-held m hs (λ i l. a (suc i) (om
         rw (n, or-zero-l, same) (or-same m hs (λ i l. a (suc i) (omega arith)))
 
 -- so regions that are right by these bits are right by their holder, and the other way round
-module _ (regions : ℕ) (hs : List ℕ) (long : length hs ≡ regionRoom) where
-  alike : (v : ℕ) → regionsRight regions v hs ≡ true → Alike v hs
+module _ (regions : ℕ) (opened holders : List ℕ) where
+  abbrev pub closed : List ℕ
+  closed = closedHolders opened holders
+
+  alike : (v : ℕ) → regionsRight regions v opened holders ≡ true → Alike v closed
   unfolding regionsRight regionFits
   alike v h i l =
-      or-keeps (isZero (getD hs i 0)) _ _ (λ w. and-right (ltb i regions) _ w) (below-at _ regionRoom i h (rw (← long) l))
+      let k : i < regionRoom = rw (← length-closed opened holders) l in
+      let fits = below-at _ regionRoom i h k in
+      rw (closed-at opened holders i k)
+      (go (isOpen (getD opened i 0)) refl (and-right (isZero (getD opened i 0) || (ltb i regions && isOpen (getD opened i 0))) _ fits))
+    where
+      entry : ℕ
+      entry = getD holders i 0
 
-  pub bits-right : regionsRight regions (orAll 0 hs) hs ≡ true → orAll 0 hs ≡ held hs
-  bits-right h = or-held (orAll 0 hs) hs (alike (orAll 0 hs) h)
+      go : (b : Bool) → isOpen (getD opened i 0) ≡ b → (isZero entry || (ltb i regions && (isOpen (getD opened i 0) || eqb entry v))) ≡ true
+          → (isZero (cond b 0 entry) || eqb (cond b 0 entry) v) ≡ true
+      go true e w = refl
+      go false e w = or-keeps (isZero entry) _ _ (λ x. and-right (ltb i regions) _ x) (rw e at w)
 
-  pub held-right : regionsRight regions (held hs) hs ≡ true → orAll 0 hs ≡ held hs
-  held-right h = or-held (held hs) hs (alike (held hs) h)
+  pub bits-right : regionsRight regions (orAll 0 closed) opened holders ≡ true → orAll 0 closed ≡ held closed
+  bits-right h = or-held (orAll 0 closed) closed (alike (orAll 0 closed) h)
+
+  pub held-right : regionsRight regions (held closed) opened holders ≡ true → orAll 0 closed ≡ held closed
+  held-right h = or-held (held closed) closed (alike (held closed) h)

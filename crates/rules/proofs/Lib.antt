@@ -1,10 +1,21 @@
--- What follows from the definitions: laws that other crates cite, and the ten P rows.
+-- What follows from the definitions: laws that other crates cite, and the rows of documents 01 and 02 that antt computes.
 pub mod Bools
 pub mod Counts
 pub mod Lists
 pub mod Bits
 pub mod Events
 pub mod Election
+pub mod Smallest
+pub mod Columns
+pub mod Pigeons
+pub mod Ways
+pub mod Chains
+pub mod Urgency
+pub mod Circles
+pub mod CirclesKept
+pub mod ChainsKept
+pub mod Heirs
+pub mod States
 pub mod Store
 pub mod Queues
 pub mod Retrieve
@@ -19,13 +30,5 @@ pub mod Entries
 pub mod Clock
 pub mod Quick
 pub mod Rows
-pub mod Columns
-pub mod Smallest
-pub mod Pigeons
-pub mod Ways
-pub mod Chains
-pub mod Urgency
-pub mod Circles
-pub mod CirclesKept
-pub mod Heirs
-pub mod ChainsKept
+pub mod OpenRows
+pub mod OpenTables

@@ -11,11 +11,11 @@ use Rattle.rules.specs.declared.Table.{Table}
 use Rattle.rules.specs.declared.Call.{Call}
 use Rattle.rules.specs.Words.{isZero, every, Reason, first, None}
 use Rattle.rules.specs.Numbers.{WAIT, ENTER, EXIT, SEND, RETRIEVE, TICK}
-use Rattle.rules.specs.Regions.{occupied, heldBy}
+use Rattle.rules.specs.Regions.{heldBy}
 use Rattle.rules.specs.Queues.{noneFits}
 use Rattle.rules.specs.Tables.{regionOf, boundOf, queueOf}
 use Rattle.rules.specs.Validity.{valid}
-use Rattle.rules.specs.Refusals.{outsideBarred, notElected, tickByTask, missing, badOperator, wrongState, leaves, entriesFull, reasons, arrivedReasons, objectReasons, refusal}
+use Rattle.rules.specs.Refusals.{outsideBarred, notElected, tickByTask, missing, badOperator, wrongState, inside, entriesFull, closesCircle, stopsHolder, reasons, arrivedReasons, objectReasons, refusal}
 use Rattle.rules.proofs.Lists.{every-head, every-tail}
 
 -- ---- the order of the status table
@@ -23,7 +23,7 @@ use Rattle.rules.proofs.Lists.{every-head, every-tail}
 abbrev statuses : List Reason → List ℕ
 statuses = map (λ r. r .status)
 
-pub call-order : (t : Table) (c : Call) → statuses (reasons t c) ≡ 10 ∷ 11 ∷ 13 ∷ 12 ∷ 13 ∷ 14 ∷ 19 ∷ 15 ∷ 16 ∷ 17 ∷ 18 ∷ 22 ∷ 23 ∷ []
+pub call-order : (t : Table) (c : Call) → statuses (reasons t c) ≡ 10 ∷ 11 ∷ 13 ∷ 12 ∷ 13 ∷ 14 ∷ 19 ∷ 15 ∷ 16 ∷ 17 ∷ 18 ∷ 22 ∷ 23 ∷ 24 ∷ 25 ∷ []
 unfolding reasons
 call-order t c = refl
 
@@ -79,16 +79,18 @@ pub record Accepted (t : Table) (c : Call) : Type 0 where
   pub nothing-missing : missing (t .tasks) (t .regions) (t .queues) c ≡ false
   pub operator-fits : (eqb (c .operation) WAIT && badOperator (c .b)) ≡ false
   pub right-state : wrongState (t .state) (t .timers) c ≡ false
-  pub may-leave : (leaves c && occupied (t .holder)) ≡ false
+  pub may-leave : inside (t .opened) (t .holder) c ≡ false
   pub not-full : (eqb (c .operation) SEND && leb (boundOf t (c .a)) (length (queueOf t (c .a)))) ≡ false
   pub fits : (eqb (c .operation) RETRIEVE && noneFits (c .c) (queueOf t (c .a))) ≡ false
-  pub may-enter : (eqb (c .operation) ENTER && entriesFull (t .entries) (c .a)) ≡ false
+  pub may-enter : (eqb (c .operation) ENTER && entriesFull (regionOf t (c .a)) (c .caller)) ≡ false
   pub may-exit : (eqb (c .operation) EXIT && not (heldBy (c .caller) (regionOf t (c .a)))) ≡ false
+  pub no-circle : closesCircle (t .awaits) (t .holder) c ≡ false
+  pub may-stop : stopsHolder (t .opened) (t .holder) c ≡ false
 
 pub accepted-facts : (t : Table) (c : Call) → refusal t c ≡ 0 → Accepted t c
 unfolding reasons
 accepted-facts t c h =
-    let (a, (b, (d, (e, (z, (f, (g, (i, (j, (k, (l, (m, (n, rest))))))))))))) = accepted-none t c .0 h in
+    let (a, (b, (d, (e, (z, (f, (g, (i, (j, (k, (l, (m, (n, (o, (p, rest))))))))))))))) = accepted-none t c .0 h in
     record {
       is-valid = not-false (valid t) a;
       known = b;
@@ -103,4 +105,6 @@ accepted-facts t c h =
       fits = l;
       may-enter = m;
       may-exit = n;
+      no-circle = o;
+      may-stop = p;
     }

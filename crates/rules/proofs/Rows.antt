@@ -1,4 +1,4 @@
--- The ten P rows of document 01's bench examples, as one list, shown right by one claim that antt computes; and T-01's timers and T-04's counts likewise.
+-- The ten P rows of document 01's bench examples, as one list, shown right by one claim that antt computes; and T-01's timers and T-04's counts likewise. `OpenRows` has those of T-09.
 use Prim.Native.Nat.{ℕ, _-_}
 use mathlib.Core.Path.{_≡_, refl}
 use mathlib.Core.Bool.{Bool, true, _&&_}
@@ -10,20 +10,22 @@ use Rattle.rules.specs.declared.Call.{Call}
 use Rattle.rules.specs.declared.Answer.{Answer}
 use Rattle.rules.specs.declared.Done.{Done}
 use Rattle.rules.specs.Numbers.{tickEnd, outside, nobody, START, STOP, END, SIGNAL, WAIT, CLEAR, ENTER, EXIT, SEND, RETRIEVE, ARM, DISARM, TICK}
-use Rattle.rules.specs.Words.{isZero, all, every, below, padded}
+use Rattle.rules.specs.Words.{isZero, all, every, below, padded, column}
 use Rattle.rules.specs.Events.{met, arrive, cleared}
 use Rattle.rules.specs.Tasks.{woken, signalled, waited}
 use Rattle.rules.specs.Regions.{held}
 use Rattle.rules.specs.Queues.{pairs, front, behind, laid, largest, before, place, without}
 use Rattle.rules.specs.Election.{smallest, lowest, isBest, bestReady, election, displacedBy}
+use Rattle.rules.specs.Urgency.{closedHolders, holdsOpen, nobodyAwaits, statesWith, urgencyBy, regionUrgency, taskUrgency, urgencies, line, heir}
+use Rattle.rules.specs.Circles.{onward, ends, meets, noCircle}
 use Rattle.rules.specs.Tables.{taskOf, withRegion, withTimers, queueOf}
-use Rattle.rules.specs.Validity.{shaped, countsInRange, prioritiesInRange, boundsInRange, listsInRange, operatorsInRange, holdersInRange, criteriaInRange, zeroPast, zeroPastCounts, zeroPastLengths, restRight, statesRight, entriesRight, oneHolder, holderReady, holderElected, lengthsRight, electedRight, timerRight, timersRight, valid}
+use Rattle.rules.specs.Validity.{shaped, countsInRange, prioritiesInRange, boundsInRange, listsInRange, operatorsInRange, holdersInRange, criteriaInRange, zeroPast, zeroPastCounts, zeroPastLengths, restRight, statesRight, entriesRight, oneHolder, holderReady, holderElected, lengthsRight, electedRight, timerRight, timersRight, marksInRange, openHoldersRight, awaitsRight, valid}
 use Rattle.rules.specs.Fresh.{configurationInRange, freshTable, fresh}
-use Rattle.rules.specs.Refusals.{missing, wrongState, leaves, reasons}
+use Rattle.rules.specs.Refusals.{missing, wrongState, leaves, inside, closesCircle, stopsHolder, reasons}
 use Rattle.rules.specs.Timers.{later, ahead}
 use Rattle.rules.specs.Effects.{ringing, ticked, effect}
 use Rattle.rules.specs.Step.{step}
-use Rattle.rules.proofs.Quick.{zeroBehind, quickValid, quickStep, computed}
+use Rattle.rules.proofs.Quick.{zeroBehind, zeroRest, zeroRests, wayEnds, waysEnd, quickValid, quickStep, computed}
 
 -- a call, and what document 01 says of its answer; of the one displaced the rows before T-08 say nothing
 pub record Said : Type 0 where
@@ -45,7 +47,7 @@ pub record Run : Type 0 where
   pub shows : List Events
 
 -- who calls, the operation and its numbers, then status, value, key and elected task
-abbrev gives : ℕ → ℕ → ℕ → ℕ → ℕ → ℕ → ℕ → ℕ → ℕ → Said
+abbrev pub gives : ℕ → ℕ → ℕ → ℕ → ℕ → ℕ → ℕ → ℕ → ℕ → Said
 gives who operation a b c status value key elected =
     record {
       call = record { caller = who; operation = operation; a = a; b = b; c = c };
@@ -57,11 +59,11 @@ gives who operation a b c status value key elected =
     }
 
 -- the same where value and key are 0
-abbrev says : ℕ → ℕ → ℕ → ℕ → ℕ → ℕ → ℕ → Said
+abbrev pub says : ℕ → ℕ → ℕ → ℕ → ℕ → ℕ → ℕ → Said
 says who operation a b c status elected = gives who operation a b c status 0 0 elected
 
 -- the same, with the one displaced
-abbrev aside : ℕ → ℕ → ℕ → ℕ → ℕ → ℕ → ℕ → ℕ → Said
+abbrev pub aside : ℕ → ℕ → ℕ → ℕ → ℕ → ℕ → ℕ → ℕ → Said
 aside who operation a b c status elected displaced =
     record {
       call = record { caller = who; operation = operation; a = a; b = b; c = c };
@@ -73,33 +75,33 @@ aside who operation a b c status elected displaced =
     }
 
 -- a run, and a run at whose end a task's events are named
-abbrev run : List Said → Run
+abbrev pub run : List Said → Run
 run calls = record { says = calls; shows = [] }
 
-abbrev endsWith : ℕ → ℕ → List Said → Run
+abbrev pub endsWith : ℕ → ℕ → List Said → Run
 endsWith task arrived calls = record { says = calls; shows = record { task = task; arrived = arrived } ∷ [] }
 
-sameAnswer : Answer → Said → Bool
+pub sameAnswer : Answer → Said → Bool
 sameAnswer x y =
     eqb (x .status) (y .status) && eqb (x .value) (y .value) && eqb (x .key) (y .key) && eqb (x .elected) (y .elected)
     && every (eqb (x .displaced)) (y .displaced)
 
-sameEvents : Table → Events → Bool
+pub sameEvents : Table → Events → Bool
 sameEvents t e = eqb (taskOf t (e .task) .arrived) (e .arrived)
 
 -- what a call does to a table
-abbrev Does : Type 0
+abbrev pub Does : Type 0
 Does = Table → Call → Done
 
-rightFrom : Does → Table → List Said → List Events → Bool
+pub rightFrom : Does → Table → List Said → List Events → Bool
 rightFrom does t [] shows = every (sameEvents t) shows
 rightFrom does t (s ∷ ss) shows =
     let d = does t (s .call) in
     sameAnswer (d .answer) s && rightFrom does (d .table) ss shows
 
--- "Each starts fresh: priorities 5, 5, 2, two regions, one queue of bound 2."
+-- "Each starts fresh: priorities 5, 5, 2, two regions, one queue of bound 2." Both regions are closed.
 pub begun : Done
-begun = fresh 3 2 1 (5 ∷ 5 ∷ 2 ∷ []) (2 ∷ [])
+begun = fresh 3 2 1 (5 ∷ 5 ∷ 2 ∷ []) (2 ∷ []) (0 ∷ 0 ∷ [])
 
 pub right : Does → Table → Run → Bool
 right does t r = rightFrom does t (r .says) (r .shows)
@@ -188,27 +190,35 @@ rows = P1 ∷ P2 ∷ P3 ∷ P4 ∷ P5 ∷ PO1 ∷ PO2 ∷ PO3 ∷ PO4 ∷ PO5 �
 
 -- to unfold these is to unfold all that the rules compute with
 computingWords : Unit {0}
-unfolding all every below padded met arrive cleared woken signalled waited held later ahead smallest lowest isBest bestReady election displacedBy
+unfolding all every below padded column met arrive cleared woken signalled waited held later ahead smallest lowest isBest bestReady election displacedBy
 computingWords = tt
 
 computingQueues : Unit {0}
 unfolding pairs front behind laid largest before place without queueOf
 computingQueues = tt
 
+computingUrgency : Unit {0}
+unfolding closedHolders holdsOpen nobodyAwaits statesWith urgencyBy regionUrgency taskUrgency urgencies line heir onward ends meets noCircle
+computingUrgency = tt
+
 computingRules : Unit {0}
 unfolding shaped countsInRange prioritiesInRange boundsInRange listsInRange operatorsInRange holdersInRange criteriaInRange zeroPast zeroPastCounts
 computingRules = tt
 
 computingMoreRules : Unit {0}
-unfolding zeroPastLengths restRight statesRight entriesRight oneHolder holderReady holderElected lengthsRight electedRight timerRight timersRight valid
+unfolding zeroPastLengths restRight statesRight entriesRight oneHolder holderReady holderElected lengthsRight electedRight timerRight timersRight marksInRange openHoldersRight awaitsRight valid
 computingMoreRules = tt
 
 computingSteps : Unit {0}
-unfolding configurationInRange freshTable fresh missing wrongState leaves reasons ringing ticked effect zeroBehind quickValid quickStep
+unfolding configurationInRange freshTable fresh missing wrongState leaves inside closesCircle stopsHolder reasons ringing ticked effect
 computingSteps = tt
 
-computing : Unit {0}
-unfolding rowsRight right begun rightFrom sameAnswer sameEvents computingWords computingQueues computingRules computingMoreRules computingSteps
+computingQuickly : Unit {0}
+unfolding zeroBehind zeroRest zeroRests wayEnds waysEnd quickValid quickStep
+computingQuickly = tt
+
+unfoldable pub computing : Unit {0}
+unfolding rowsRight right begun rightFrom sameAnswer sameEvents computingWords computingQueues computingUrgency computingRules computingMoreRules computingSteps computingQuickly
 computing = tt
 
 -- the one claim: antt computes every run of every row

@@ -6,9 +6,10 @@ use borrow.Author.Tests.{leb-true}
 use Rattle.rules.specs.declared.Table.{Table}
 use Rattle.rules.specs.Numbers.{taskRoom, regionRoom, queueRoom}
 use Rattle.rules.specs.Regions.{held}
-use Rattle.rules.specs.Tables.{electionOf}
-use Rattle.rules.specs.Validity.{shaped, countsInRange, prioritiesInRange, boundsInRange, listsInRange, operatorsInRange, holdersInRange, criteriaInRange, zeroPastCounts, zeroPastLengths, restRight, statesRight, entriesRight, oneHolder, holderReady, holderElected, lengthsRight, electedRight, timersRight, valid}
-use Rattle.rules.specs.Checks.{tasksRight, regionsRight, entriesEverywhere, holderRight, queuesRight}
+use Rattle.rules.specs.Circles.{noCircle}
+use Rattle.rules.specs.Tables.{statesOf, closedOf, electionOf}
+use Rattle.rules.specs.Validity.{shaped, countsInRange, prioritiesInRange, boundsInRange, listsInRange, operatorsInRange, holdersInRange, criteriaInRange, zeroPastCounts, zeroPastLengths, restRight, statesRight, entriesRight, oneHolder, holderReady, holderElected, lengthsRight, electedRight, timersRight, marksInRange, openHoldersRight, awaitsRight, valid}
+use Rattle.rules.specs.Checks.{tasksRight, regionsRight, entriesEverywhere, holderRight, openHoldersFit, awaitsFit, queuesRight}
 use Rattle.rules.proofs.Bools.{given, shown, _&_}
 
 -- ---- the list, rule by rule
@@ -28,17 +29,21 @@ pub record Rules (t : Table) : Type 0 where
   pub rest : restRight t ≡ true
   pub states : statesRight t ≡ true
   pub entries : entriesRight (t .regions) (t .holder) (t .entries) ≡ true
-  pub one-holder : oneHolder (t .regions) (t .holder) ≡ true
-  pub holder-ready : holderReady (t .state) (t .holder) ≡ true
-  pub holder-elected : holderElected (t .elected) (t .holder) ≡ true
+  pub one-holder : oneHolder (t .regions) (closedOf t) ≡ true
+  pub holder-ready : holderReady (statesOf t) (closedOf t) ≡ true
+  pub holder-elected : holderElected (t .elected) (closedOf t) ≡ true
   pub lengths : lengthsRight (t .queues) (t .bound) (t .length) ≡ true
   pub elected : electedRight t ≡ true
   pub timers : timersRight (t .tasks) (t .state) (t .ticks) (t .timers) ≡ true
+  pub marks : marksInRange (t .regions) (t .opened) ≡ true
+  pub open-holders : openHoldersRight (t .regions) (t .state) (t .opened) (t .holder) ≡ true
+  pub no-circle : noCircle (t .awaits) (t .holder) ≡ true
+  pub awaits : awaitsRight (t .tasks) (t .state) (t .awaits) (t .opened) (t .holder) ≡ true
 
 pub rules-of : (t : Table) → valid t ≡ true → Rules t
 unfolding valid
 rules-of t v =
-    let (a, (b, (c, (d, (e, (f, (g, (h, (i, (j, (k, (l, (m, (w, (n, (o, (p, (q, (r, (s, u)))))))))))))))))))) = given _ v in
+    let (a, (b, (c, (d, (e, (f, (g, (h, (i, (j, (k, (l, (m, (w, (n, (o, (p, (q, (r, (s, (u, (x, (y, (z, end)))))))))))))))))))))))) = given _ v in
     record {
       shape = a;
       counts = b;
@@ -60,6 +65,10 @@ rules-of t v =
       lengths = q;
       elected = r;
       timers = s;
+      marks = u;
+      open-holders = x;
+      no-circle = y;
+      awaits = z;
     }
 
 pub valid-of : (t : Table) → Rules t → valid t ≡ true
@@ -86,6 +95,10 @@ valid-of t r =
     & r .lengths
     & r .elected
     & r .timers
+    & r .marks
+    & r .open-holders
+    & r .no-circle
+    & r .awaits
     & tt)
 
 -- ---- the same by subject: `Validity` shows that a table has these exactly if it has those
@@ -94,9 +107,12 @@ pub record Parts (t : Table) : Type 0 where
   pub shape : shaped t ≡ true
   pub counts : countsInRange (t .tasks) (t .regions) (t .queues) ≡ true
   pub tasks : tasksRight (t .tasks) (t .priority) (t .state) (t .arrived) (t .list) (t .operator) ≡ true
-  pub regions : regionsRight (t .regions) (held (t .holder)) (t .holder) ≡ true
+  pub regions : regionsRight (t .regions) (held (closedOf t)) (t .opened) (t .holder) ≡ true
   pub entries : entriesEverywhere (t .holder) (t .entries) ≡ true
-  pub holder : holderRight (t .tasks) (t .state) (held (t .holder)) ≡ true
+  pub holder : holderRight (t .tasks) (statesOf t) (held (closedOf t)) ≡ true
+  pub open-holders : openHoldersFit (t .tasks) (t .state) (t .opened) (t .holder) ≡ true
+  pub awaits : awaitsFit (t .tasks) (t .state) (t .awaits) (t .opened) (t .holder) ≡ true
+  pub no-circle : noCircle (t .awaits) (t .holder) ≡ true
   pub queues : queuesRight (t .queues) (t .bound) (t .length) (t .element) (t .criterion) ≡ true
   pub criteria : criteriaInRange (t .criterion) ≡ true
   pub elected : t .elected ≡ electionOf t

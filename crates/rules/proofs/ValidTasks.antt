@@ -13,12 +13,13 @@ use Rattle.rules.specs.Words.{isZero}
 use Rattle.rules.specs.Tasks.{waiting}
 use Rattle.rules.specs.Regions.{held}
 use Rattle.rules.specs.Election.{lowest, readyAt, isBest, bestReady}
-use Rattle.rules.specs.Tables.{electionOf}
+use Rattle.rules.specs.Tables.{statesOf, urgenciesOf, closedOf, electionOf}
 use Rattle.rules.specs.Validity.{shaped, prioritiesInRange, listsInRange, operatorsInRange, zeroPast, zeroPastCounts, restRight, stateRight, statesRight}
 use Rattle.rules.specs.Checks.{rowRight, rowZero, rowFits, tasksRight, holderRight}
 use Rattle.rules.proofs.Bools.{given, shown, _&_, and-left, and-right}
 use Rattle.rules.proofs.Counts.{below-at, below-all, within-at, past-at}
 use Rattle.rules.proofs.Election.{lowest-is, election-held, election-free}
+use Rattle.rules.proofs.States.{ready-stored, ready-free}
 use Rattle.rules.proofs.Rules.{Rules, Parts}
 
 -- ---- a row that is right, test by test
@@ -107,18 +108,43 @@ module _ (t : Table) (right : tasksRight (t .tasks) (t .priority) (t .state) (t 
           let past : getD (t .state) i 0 ≡ 0 = List·getD-eq-default (t .state) 0 (rw long (ltb-false i taskRoom f)) in
           absurd (false≢true (rw past at h))
 
--- ---- who runs: the elected task, if there is one, is ready, and so below the count
-
-pub elected-ready : (t : Table) → Parts t → t .elected ≢ nobody → readyAt (t .state) (t .elected) ≡ true
-unfolding holderRight bestReady isBest
-elected-ready t p n = rw (p .elected) (go (isZero (held (t .holder))) refl)
+-- every priority number is below 256, also past the count, where it is 0
+pub priority-small : (t : Table) → tasksRight (t .tasks) (t .priority) (t .state) (t .arrived) (t .list) (t .operator) ≡ true
+    → (i : ℕ) → i < taskRoom → getD (t .priority) i 0 < priorityEnd
+unfolding rowZero
+priority-small t right i k = go (ltb i (t .tasks)) refl
   where
-    best : lowest taskRoom (isBest (t .state) (t .priority)) ≢ nobody → readyAt (t .state) (lowest taskRoom (isBest (t .state) (t .priority))) ≡ true
-    best m = ⊎-elim (λ q. absurd (m (q .0))) (λ q. and-left _ _ (q .passing)) (lowest-is (isBest (t .state) (t .priority)) taskRoom (omega arith))
+    go : (b : Bool) → ltb i (t .tasks) ≡ b → getD (t .priority) i 0 < priorityEnd
+    go true e = ltb-true _ priorityEnd (row-right t right i (ltb-true i (t .tasks) e) k .priority-fits)
+    go false e =
+        let none : getD (t .priority) i 0 ≡ 0 = eqb-true _ 0 (given _ (row-zero t right i (ltb-false i (t .tasks) e) k) .0) in
+        omega arith
 
-    go : (b : Bool) → isZero (held (t .holder)) ≡ b → readyAt (t .state) (electionOf t) ≡ true
-    go true e = let free = election-free (t .state) (t .priority) (t .holder) (ap not e) in rw free (best (λ z. n (p .elected ∙ free ∙ z)))
-    go false e = rw (election-held (t .state) (t .priority) (t .holder) (ap not e)) (and-right (leb (held (t .holder)) (t .tasks)) _ (rw e at (p .holder)))
+-- ---- who runs: the elected task, if there is one, is ready, so that it waits for no region and is below the count
 
-pub elected-below : (t : Table) → Parts t → t .elected ≢ nobody → t .elected < t .tasks
-elected-below t p n = ready-below t (p .tasks) (p .shape) (t .elected) (elected-ready t p n)
+pub length-states-of : (t : Table) → shaped t ≡ true → length (t .state) ≡ taskRoom
+unfolding shaped
+length-states-of t shape = eqb-true _ _ (given _ shape .1 .0)
+
+pub elected-runs : (t : Table) → Parts t → t .elected ≢ nobody → readyAt (statesOf t) (t .elected) ≡ true
+unfolding holderRight bestReady isBest
+elected-runs t p n = rw (p .elected) (go (isZero (held (closedOf t))) refl)
+  where
+    best : lowest taskRoom (isBest (statesOf t) (urgenciesOf t)) ≢ nobody → readyAt (statesOf t) (lowest taskRoom (isBest (statesOf t) (urgenciesOf t))) ≡ true
+    best m =
+        ⊎-elim (λ q. absurd (m (q .0))) (λ q. and-left _ _ (q .passing)) (lowest-is (isBest (statesOf t) (urgenciesOf t)) taskRoom (omega arith))
+
+    go : (b : Bool) → isZero (held (closedOf t)) ≡ b → readyAt (statesOf t) (electionOf t) ≡ true
+    go true e = let free = election-free (statesOf t) (urgenciesOf t) (closedOf t) (ap not e) in rw free (best (λ z. n (p .elected ∙ free ∙ z)))
+    go false e =
+        rw (election-held (statesOf t) (urgenciesOf t) (closedOf t) (ap not e)) (and-right (leb (held (closedOf t)) (t .tasks)) _ (rw e at (p .holder)))
+
+module _ (t : Table) (p : Parts t) (n : t .elected ≢ nobody) where
+  pub elected-ready : readyAt (t .state) (t .elected) ≡ true
+  elected-ready = ready-stored (t .awaits) (t .state) (length-states-of t (p .shape)) (t .elected) (elected-runs t p n)
+
+  pub elected-free : getD (t .awaits) (t .elected) 0 ≡ 0
+  elected-free = ready-free (t .awaits) (t .state) (length-states-of t (p .shape)) (t .elected) (elected-runs t p n)
+
+  pub elected-below : t .elected < t .tasks
+  elected-below = ready-below t (p .tasks) (p .shape) (t .elected) elected-ready

@@ -12,14 +12,15 @@ use Rattle.rules.specs.Words.{isZero, all}
 use Rattle.rules.specs.Events.{met}
 use Rattle.rules.specs.Tasks.{waiting, isWaiting}
 use Rattle.rules.specs.Regions.{held}
-use Rattle.rules.specs.Tables.{taskOf, boundOf, electionOf}
-use Rattle.rules.specs.Validity.{shaped, countsInRange, prioritiesInRange, boundInRange, boundsInRange, listsInRange, operatorsInRange, holdersInRange, criteriaInRange, zeroPast, zeroPastCounts, zeroPastLengths, restRight, statesRight, entriesRight, oneHolder, lengthsRight, electedRight, timersRight, valid}
-use Rattle.rules.specs.Checks.{rowZero, tasksRight, regionsRight, entriesEverywhere, holderRight, queuesRight}
+use Rattle.rules.specs.Tables.{taskOf, boundOf, statesOf, closedOf, electionOf}
+use Rattle.rules.specs.Validity.{shaped, countsInRange, prioritiesInRange, boundInRange, boundsInRange, listsInRange, operatorsInRange, holdersInRange, criteriaInRange, zeroPast, zeroPastCounts, zeroPastLengths, restRight, statesRight, entriesRight, oneHolder, lengthsRight, electedRight, timersRight, marksInRange, openHoldersRight, awaitsRight, valid}
+use Rattle.rules.specs.Circles.{noCircle}
+use Rattle.rules.specs.Checks.{rowZero, tasksRight, regionsRight, entriesEverywhere, holderRight, openHoldersFit, awaitsFit, queuesRight}
 use Rattle.rules.proofs.Bools.{given, shown, _&_, and-left, and-right, same-test}
 use Rattle.rules.proofs.Counts.{below-all, within-all, past-all}
 use Rattle.rules.proofs.Rules.{Rules, rules-of, valid-of, Parts, counts-fit}
 use Rattle.rules.proofs.ValidTasks.{RowAt, tasks-gathered, row-right, row-zero}
-use Rattle.rules.proofs.ValidRegions.{regions-gathered, entries-gathered, holder-gathered, entry-fits, same-holder, free-past, entries-fit, uncounted, holder-is-ready, holder-is-elected}
+use Rattle.rules.proofs.ValidRegions.{regions-gathered, entries-gathered, holder-gathered, open-holders-gathered, awaits-gathered, mark-in-range, unmarked, entry-fits, same-holder, free-past, entries-fit, uncounted, holder-is-ready, holder-is-elected, open-holder-ready, await-fits, awaits-past}
 use Rattle.rules.proofs.ValidQueues.{queues-gathered, used, unused, zeros-behind}
 
 -- ---- from the list to the parts
@@ -35,6 +36,9 @@ parts-of t v =
       regions = regions-gathered t r;
       entries = entries-gathered t r;
       holder = holder-gathered t r;
+      open-holders = open-holders-gathered t r;
+      awaits = awaits-gathered t r;
+      no-circle = r .no-circle;
       queues = queues-gathered t r;
       criteria = r .criteria;
       elected = eqb-true _ _ (r .elected);
@@ -60,10 +64,12 @@ module _ (t : Table) (p : Parts t) where
       & past-all _ _ _ (uncounted t p)
       & past-all _ _ _ (λ q l k. and-left _ _ (unused t p q l k))
       & past-all _ _ _ (λ q l k. and-right (isZero (boundOf t q)) _ (unused t p q l k))
+      & past-all _ _ _ (awaits-past t p)
+      & past-all _ _ _ (unmarked t p)
       & tt)
 
   rules-gathered : Rules t
-  unfolding prioritiesInRange boundsInRange listsInRange operatorsInRange holdersInRange zeroPastLengths restRight statesRight entriesRight oneHolder lengthsRight electedRight
+  unfolding prioritiesInRange boundsInRange listsInRange operatorsInRange holdersInRange zeroPastLengths restRight statesRight entriesRight oneHolder lengthsRight electedRight marksInRange openHoldersRight awaitsRight
   rules-gathered =
       record {
         shape = p .shape;
@@ -86,6 +92,10 @@ module _ (t : Table) (p : Parts t) where
         lengths = within-all _ _ _ (λ q l k. and-right (boundInRange (boundOf t q)) _ (used t p q l k));
         elected = eq-eqb _ _ (p .elected);
         timers = p .timers;
+        marks = within-all _ _ _ (λ i l k. mark-in-range t p i k);
+        open-holders = within-all _ _ _ (λ i l k. open-holder-ready t p i k);
+        no-circle = p .no-circle;
+        awaits = within-all _ _ _ (λ i l k. await-fits t p i k);
       }
 
   pub valid-parts : valid t ≡ true
@@ -97,9 +107,12 @@ abbrev pub checks : Table → List Bool
 checks t =
     countsInRange (t .tasks) (t .regions) (t .queues)
     ∷ tasksRight (t .tasks) (t .priority) (t .state) (t .arrived) (t .list) (t .operator)
-    ∷ regionsRight (t .regions) (held (t .holder)) (t .holder)
+    ∷ regionsRight (t .regions) (held (closedOf t)) (t .opened) (t .holder)
     ∷ entriesEverywhere (t .holder) (t .entries)
-    ∷ holderRight (t .tasks) (t .state) (held (t .holder))
+    ∷ holderRight (t .tasks) (statesOf t) (held (closedOf t))
+    ∷ openHoldersFit (t .tasks) (t .state) (t .opened) (t .holder)
+    ∷ awaitsFit (t .tasks) (t .state) (t .awaits) (t .opened) (t .holder)
+    ∷ noCircle (t .awaits) (t .holder)
     ∷ queuesRight (t .queues) (t .bound) (t .length) (t .element) (t .criterion)
     ∷ criteriaInRange (t .criterion)
     ∷ eqb (t .elected) (electionOf t)
@@ -113,13 +126,27 @@ valid-is t s = same-test (valid t) (all (checks t)) passes holds
     passes v =
         let p = parts-of t v in
         shown (checks t)
-        (p .counts & p .tasks & p .regions & p .entries & p .holder & p .queues & p .criteria & eq-eqb _ _ (p .elected) & p .timers & tt)
+        (p .counts & p .tasks & p .regions & p .entries & p .holder & p .open-holders & p .awaits & p .no-circle & p .queues & p .criteria & eq-eqb _ _ (p .elected) & p .timers & tt)
 
     holds : all (checks t) ≡ true → valid t ≡ true
     holds h =
-        let (a, (b, (c, (w, (d, (e, (f, (g, (i, j))))))))) = given (checks t) h in
+        let (a, (b, (c, (w, (d, (o, (x, (n, (e, (f, (g, (i, j)))))))))))) = given (checks t) h in
         valid-parts t
-        (record { shape = s; counts = a; tasks = b; regions = c; entries = w; holder = d; queues = e; criteria = f; elected = eqb-true _ _ g; timers = i })
+        (record {
+          shape = s;
+          counts = a;
+          tasks = b;
+          regions = c;
+          entries = w;
+          holder = d;
+          open-holders = o;
+          awaits = x;
+          no-circle = n;
+          queues = e;
+          criteria = f;
+          elected = eqb-true _ _ g;
+          timers = i;
+        })
 
 -- ---- a law for the class: in a valid table no task waits with its condition met
 

@@ -1,26 +1,28 @@
 -- The thirteen operations: what an accepted call does to the table, before the election, and what it answers.
-use Prim.Native.Nat.{ℕ}
-use mathlib.Core.Bool.{cond}
+use Prim.Native.Nat.{ℕ, suc}
+use mathlib.Core.Bool.{Bool, cond, not, _&&_}
 use mathlib.Core.List.{List, [], _∷_, _++_, map}
+use lib.Dec.{eqb}
 use lib.ListN.{getD}
 use Rattle.rules.specs.declared.Timer.{Timer}
 use Rattle.rules.specs.declared.Table.{Table}
 use Rattle.rules.specs.declared.Call.{Call}
+use Rattle.rules.specs.Numbers.{nobody}
 use Rattle.rules.specs.Words.{altered, byOperation}
 use Rattle.rules.specs.Events.{met}
 use Rattle.rules.specs.Tasks.{asStarted, asStopped, signalled, waited, asCleared}
-use Rattle.rules.specs.Regions.{entered, exited}
+use Rattle.rules.specs.Regions.{heldByOther, entered, exited, handed}
 use Rattle.rules.specs.Queues.{Pair, pair, noPair, place, without}
 use Rattle.rules.specs.Timers.{later, asArmed, disarmed, isDue, rung}
-use Rattle.rules.specs.Tables.{taskOf, regionOf, changed, withTimers, withRegion, queueOf, withQueue}
+use Rattle.rules.specs.Tables.{taskOf, regionOf, heirOf, changed, withTimers, withRegion, withAwaits, queueOf, withQueue}
 
--- the table, the status (0, or 1 for a WAIT that waits) and the pair that RETRIEVE gives
+-- the table, the status (0, or 1 for a WAIT that waits and an ENTER that suspends) and the pair that RETRIEVE gives
 pub record Effect : Type 0 where
   pub table : Table
   pub status : ℕ
   pub given : Pair
 
--- "Whatever is accepted has status 0, except a WAIT that waits"; "both are 0 otherwise"
+-- "Whatever is accepted has status 0, except a WAIT that waits", and an ENTER that suspends; "both are 0 otherwise"
 abbrev pub plain : Table → Effect
 plain t = record { table = t; status = 0; given = noPair }
 
@@ -28,9 +30,9 @@ plain t = record { table = t; status = 0; given = noPair }
 abbrev pub start : Table → Call → Effect
 start t c = plain (changed (c .a) asStarted t)
 
--- a task stopped: "STOP and END disarm the task's timers"
+-- a task stopped: "STOP and END disarm the task's timers"; "A stopped task leaves its line"
 abbrev pub stoppedTable : ℕ → Table → Table
-stoppedTable i t = withTimers (t .ticks) (map (disarmed i) (t .timers)) (changed i asStopped t)
+stoppedTable i t = withAwaits i 0 (withTimers (t .ticks) (map (disarmed i) (t .timers)) (changed i asStopped t))
 
 -- "becomes stopped, events and waited list cleared; may be the caller"
 abbrev pub stop : Table → Call → Effect
@@ -57,13 +59,29 @@ wait t c =
 abbrev pub clear : Table → Call → Effect
 clear t c = plain (changed (c .caller) (asCleared (c .a)) t)
 
--- "caller becomes holder"; "a region counts its entries"
-abbrev pub enter : Table → Call → Effect
-enter t c = plain (withRegion (c .a) (entered (c .caller) (regionOf t (c .a))) t)
+-- ENTER of a region "held by another task suspends the caller (status 1)"
+abbrev pub suspend : Table → Call → Effect
+suspend t c = record { table = withAwaits (c .caller) (suc (c .a)) t; status = 1; given = noPair }
 
--- the region "is free only at the matching EXIT"
+-- any other ENTER: "caller becomes holder"; "a region counts its entries"
+abbrev pub enter : Table → Call → Effect
+enter t c =
+    cond (heldByOther (c .caller) (regionOf t (c .a)))
+    (suspend t c)
+    (plain (withRegion (c .a) (entered (c .caller) (regionOf t (c .a))) t))
+
+-- "EXIT at count 0 gives it to its most urgent waiting task .., which holds it with count 1 and becomes ready"
+abbrev pub handOn : ℕ → Table → Table
+handOn r t = withAwaits (heirOf t r) 0 (withRegion r (handed (heirOf t r)) t)
+
+-- the matching EXIT of a region that a task waits for
+abbrev pub handsOn : ℕ → Table → Bool
+handsOn r t = eqb (regionOf t r .entries) 1 && not (eqb (heirOf t r) nobody)
+
+-- any other EXIT: the region "is free only at the matching EXIT"
 abbrev pub exit : Table → Call → Effect
-exit t c = plain (withRegion (c .a) (exited (regionOf t (c .a))) t)
+exit t c =
+    cond (handsOn (c .a) t) (plain (handOn (c .a) t)) (plain (withRegion (c .a) (exited (regionOf t (c .a))) t))
 
 -- "element added"
 abbrev pub send : Table → Call → Effect

@@ -1,4 +1,5 @@
 -- Election: "the holder if any region is occupied; else the ready task of smallest priority number, and of equals the lowest task number; else 255".
+-- Since T-09 a table's election hands over its urgencies for priorities, and the holders of its closed regions (`Tables` `electionOf`).
 use Prim.Native.Nat.{ℕ, zero, suc, _-_, _<_, _≤_, min}
 use mathlib.Core.Path.{_≡_}
 use mathlib.Core.Logic.{_⊎_}

@@ -2,12 +2,13 @@
 use Prim.Native.Nat.{ℕ}
 use mathlib.Core.Bool.{Bool, cond}
 use lib.Dec.{leb}
-use lib.ListN.{length}
+use lib.ListN.{getD, length}
 use Rattle.rules.specs.declared.Table.{Table}
 use Rattle.rules.specs.declared.Answer.{Answer}
 use Rattle.rules.specs.Words.{isZero, first}
 use Rattle.rules.specs.Events.{met}
 use Rattle.rules.specs.Election.{priorityAt}
+use Rattle.rules.specs.Urgency.{stateWith}
 use Rattle.rules.specs.Tables.{taskOf, boundOf, queueOf}
 use Rattle.rules.specs.Answers.{replied}
 use Rattle.rules.specs.Refusals.{arrivedReasons, objectReasons}
@@ -28,9 +29,9 @@ unfoldable pub fullQuery : Table → ℕ → Answer
 fullQuery t queue =
     replied t (first (objectReasons t (t .queues) queue)) (oneIf (leb (boundOf t queue) (length (queueOf t queue))))
 
--- "PRIORITY, STATE (task: 0 stopped, 1 ready, 2 waiting)"
+-- "PRIORITY, STATE (task: 0 stopped, 1 ready, 2 waiting)"; "STATE 3 means waiting for a region"
 unfoldable pub priorityQuery : Table → ℕ → Answer
 priorityQuery t task = replied t (first (objectReasons t (t .tasks) task)) (priorityAt (t .priority) task)
 
 unfoldable pub stateQuery : Table → ℕ → Answer
-stateQuery t task = replied t (first (objectReasons t (t .tasks) task)) (taskOf t task .state)
+stateQuery t task = replied t (first (objectReasons t (t .tasks) task)) (stateWith (getD (t .awaits) task 0) (taskOf t task .state))

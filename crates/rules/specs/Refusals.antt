@@ -1,18 +1,21 @@
 -- The refusals: "Checks go in this order; the first that applies is given, and none is given otherwise."
-use Prim.Native.Nat.{ℕ}
+use Prim.Native.Nat.{ℕ, _-_}
 use mathlib.Core.Bool.{Bool, false, true, not, _&&_, _||_}
 use mathlib.Core.List.{List, [], _∷_}
 use lib.Dec.{ltb, eqb, leb}
 use lib.ListN.{getD, length}
 use Rattle.rules.specs.declared.Timer.{Timer}
+use Rattle.rules.specs.declared.Region.{Region}
 use Rattle.rules.specs.declared.Table.{Table}
 use Rattle.rules.specs.declared.Call.{Call}
-use Rattle.rules.specs.Numbers.{eventEnd, mostEntries, criterionEnd, largestPresent, timerRoom, longestDelay, outside, SIGNAL, WAIT, ENTER, EXIT, SEND, RETRIEVE, TICK}
-use Rattle.rules.specs.Words.{isZero, byOperation, Reason, when, first}
+use Rattle.rules.specs.Numbers.{taskRoom, eventEnd, mostEntries, criterionEnd, largestPresent, timerRoom, longestDelay, outside, SIGNAL, WAIT, ENTER, EXIT, SEND, RETRIEVE, TICK}
+use Rattle.rules.specs.Words.{isZero, names, byOperation, Reason, when, first}
 use Rattle.rules.specs.Tasks.{stopped}
 use Rattle.rules.specs.Regions.{occupied, heldBy}
 use Rattle.rules.specs.Queues.{noneFits}
 use Rattle.rules.specs.Timers.{idle, armedByOther}
+use Rattle.rules.specs.Urgency.{closedHolders, holdsOpen}
+use Rattle.rules.specs.Circles.{meets}
 use Rattle.rules.specs.Tables.{regionOf, boundOf, queueOf}
 use Rattle.rules.specs.Validity.{valid}
 
@@ -103,7 +106,8 @@ wrongState states timers c =
     ∷ othersAt timers (c .caller) (c .a)
     ∷ [])
 
--- ---- 16: "WAIT, END or STOP of oneself while any region is occupied, even if the wait would pass"
+-- ---- 16: "WAIT, END or STOP of oneself while any region is occupied, even if the wait would pass". Since T-09 it "counts closed regions
+-- only, and also covers WAIT by a holder of an open one and an ENTER that would suspend while a closed one is held"
 
 unfoldable pub leaves : Call → Bool
 leaves c =
@@ -111,11 +115,33 @@ leaves c =
     -- START, STOP, END, SIGNAL, WAIT
     (false ∷ eqb (c .a) (c .caller) ∷ true ∷ false ∷ true ∷ [])
 
+-- "ENTER of one held by another task suspends the caller": an open one, since none but the elected task holds closed regions
+abbrev pub suspends : List ℕ → Call → Bool
+suspends holders c =
+    eqb (c .operation) ENTER && (not (isZero (getD holders (c .a) 0)) && not (names (getD holders (c .a) 0) (c .caller)))
+
+unfoldable pub inside : List ℕ → List ℕ → Call → Bool
+inside opened holders c =
+    ((leaves c || suspends holders c) && occupied (closedHolders opened holders))
+    || (eqb (c .operation) WAIT && holdsOpen opened holders (c .caller))
+
 -- ---- 22 and 23: "The 256th ENTER gets 22, checked after 16"; "EXIT of a region that the caller doesn't hold now gets 23, checked after 16"
 
--- the region's count is at its end
-abbrev pub entriesFull : List ℕ → ℕ → Bool
-entriesFull entries r = eqb (getD entries r 0) mostEntries
+-- the caller's own region, whose count is at its end
+abbrev pub entriesFull : Region → ℕ → Bool
+entriesFull r caller = heldBy caller r && eqb (r .entries) mostEntries
+
+-- ---- 24 and 25: "ENTER that would close a circle gets 24. STOP or END of a task that holds an open region gets 25."
+
+-- the way from the region's holder comes to the caller
+unfoldable pub closesCircle : List ℕ → List ℕ → Call → Bool
+closesCircle awaits holders c = suspends holders c && meets awaits holders taskRoom (c .caller) (getD holders (c .a) 0 - 1)
+
+unfoldable pub stopsHolder : List ℕ → List ℕ → Call → Bool
+stopsHolder opened holders c =
+    byOperation false (c .operation)
+    -- START, STOP, END
+    (false ∷ holdsOpen opened holders (c .a) ∷ holdsOpen opened holders (c .caller) ∷ [])
 
 -- ---- the list of a call: the rows of the status table, in its order
 
@@ -129,11 +155,13 @@ reasons t c =
     ∷ when 14 (missing (t .tasks) (t .regions) (t .queues) c)
     ∷ when 19 (eqb (c .operation) WAIT && badOperator (c .b))
     ∷ when 15 (wrongState (t .state) (t .timers) c)
-    ∷ when 16 (leaves c && occupied (t .holder))
+    ∷ when 16 (inside (t .opened) (t .holder) c)
     ∷ when 17 (eqb (c .operation) SEND && leb (boundOf t (c .a)) (length (queueOf t (c .a))))
     ∷ when 18 (eqb (c .operation) RETRIEVE && noneFits (c .c) (queueOf t (c .a)))
-    ∷ when 22 (eqb (c .operation) ENTER && entriesFull (t .entries) (c .a))
+    ∷ when 22 (eqb (c .operation) ENTER && entriesFull (regionOf t (c .a)) (c .caller))
     ∷ when 23 (eqb (c .operation) EXIT && not (heldBy (c .caller) (regionOf t (c .a))))
+    ∷ when 24 (closesCircle (t .awaits) (t .holder) c)
+    ∷ when 25 (stopsHolder (t .opened) (t .holder) c)
     ∷ []
 
 -- ---- the lists of the queries: "ARRIVED uses 10, 12, 14, 19, and 12 for caller 255; the other queries have no caller and use 10 and 14"

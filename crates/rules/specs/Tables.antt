@@ -10,6 +10,7 @@ use Rattle.rules.specs.declared.Elected.{Elected}
 use Rattle.rules.specs.Queues.{Pair, pairs, elements, criteria, front, laid}
 use Rattle.rules.specs.Timers.{idle}
 use Rattle.rules.specs.Election.{election, elect}
+use Rattle.rules.specs.Urgency.{closedHolders, statesWith, urgencies, heir}
 
 -- what the columns say of task i
 abbrev pub taskOf : Table → ℕ → Task
@@ -51,8 +52,10 @@ withColumns state arrived list operator t =
       arrived = arrived;
       list = list;
       operator = operator;
+      awaits = t .awaits;
       holder = t .holder;
       entries = t .entries;
+      opened = t .opened;
       bound = t .bound;
       length = t .length;
       element = t .element;
@@ -79,8 +82,35 @@ withRegion i r t =
       arrived = t .arrived;
       list = t .list;
       operator = t .operator;
+      awaits = t .awaits;
       holder = set (t .holder) i (r .holder);
       entries = set (t .entries) i (r .entries);
+      opened = t .opened;
+      bound = t .bound;
+      length = t .length;
+      element = t .element;
+      criterion = t .criterion;
+      ticks = t .ticks;
+      timers = t .timers;
+    }
+
+-- the table where task i waits for what this entry names: a region's number plus 1, or 0 for none
+abbrev pub withAwaits : ℕ → ℕ → Table → Table
+withAwaits i entry t =
+    record {
+      tasks = t .tasks;
+      regions = t .regions;
+      queues = t .queues;
+      elected = t .elected;
+      priority = t .priority;
+      state = t .state;
+      arrived = t .arrived;
+      list = t .list;
+      operator = t .operator;
+      awaits = set (t .awaits) i entry;
+      holder = t .holder;
+      entries = t .entries;
+      opened = t .opened;
       bound = t .bound;
       length = t .length;
       element = t .element;
@@ -101,8 +131,10 @@ withElected who t =
       arrived = t .arrived;
       list = t .list;
       operator = t .operator;
+      awaits = t .awaits;
       holder = t .holder;
       entries = t .entries;
+      opened = t .opened;
       bound = t .bound;
       length = t .length;
       element = t .element;
@@ -124,8 +156,10 @@ withStore lengths element criterion t =
       arrived = t .arrived;
       list = t .list;
       operator = t .operator;
+      awaits = t .awaits;
       holder = t .holder;
       entries = t .entries;
+      opened = t .opened;
       bound = t .bound;
       length = lengths;
       element = element;
@@ -152,8 +186,10 @@ withTimers ticks timers t =
       arrived = t .arrived;
       list = t .list;
       operator = t .operator;
+      awaits = t .awaits;
       holder = t .holder;
       entries = t .entries;
+      opened = t .opened;
       bound = t .bound;
       length = t .length;
       element = t .element;
@@ -162,17 +198,35 @@ withTimers ticks timers t =
       timers = timers;
     }
 
+-- who gets region r next: "its most urgent waiting task"
+abbrev pub heirOf : Table → ℕ → ℕ
+heirOf t r = heir (t .priority) (t .awaits) (t .opened) (t .holder) r
+
 -- task i changed by f
 abbrev pub changed : ℕ → (Task → Task) → Table → Table
 changed i f t = withTask i (f (taskOf t i)) t
 
+-- ---- the columns that the election reads
+
+-- "STATE 3 means waiting for a region"
+abbrev pub statesOf : Table → List ℕ
+statesOf t = statesWith (t .awaits) (t .state)
+
+-- "Election uses that urgency" in the place of the priority
+abbrev pub urgenciesOf : Table → List ℕ
+urgenciesOf t = urgencies (t .priority) (t .awaits) (t .opened) (t .holder)
+
+-- "The validity and election rules on holders now speak of closed regions only"
+abbrev pub closedOf : Table → List ℕ
+closedOf t = closedHolders (t .opened) (t .holder)
+
 -- "the elected task is found afresh"
 abbrev pub electionOf : Table → ℕ
-electionOf t = election (t .state) (t .priority) (t .holder)
+electionOf t = election (statesOf t) (urgenciesOf t) (closedOf t)
 
 -- the same with the one that it displaces, where `former` was elected before
 abbrev pub electOf : ℕ → Table → Elected
-electOf former t = elect former (t .state) (t .priority) (t .holder)
+electOf former t = elect former (statesOf t) (urgenciesOf t) (closedOf t)
 
 abbrev pub settled : Table → Table
 settled t = withElected (electionOf t) t

@@ -14,6 +14,10 @@ use Rattle.rules.specs.Election.{smallest, bestReady}
 abbrev pub isOpen : ℕ → Bool
 isOpen mark = eqb mark 1
 
+-- the holders of the closed regions: an open one counts as free
+unfoldable pub closedHolders : List ℕ → List ℕ → List ℕ
+closedHolders opened holder = column regionRoom (λ r. cond (isOpen (getD opened r 0)) 0 (getD holder r 0))
+
 -- task i waits for region r
 abbrev pub awaiting : List ℕ → ℕ → ℕ → Bool
 awaiting awaits r i = names (getD awaits i 0) r

@@ -1,5 +1,5 @@
 -- "A table is valid when all of these hold": one definition for each rule of document 01's list, joined in its order.
-use Prim.Native.Nat.{ℕ, zero, suc}
+use Prim.Native.Nat.{ℕ, zero, suc, _-_}
 use mathlib.Core.Bool.{Bool, true, false, cond, not, _&&_, _||_}
 use mathlib.Core.List.{List, [], _∷_}
 use lib.Dec.{ltb, eqb, leb}
@@ -7,14 +7,16 @@ use lib.ListN.{getD, length}
 use Rattle.rules.specs.declared.Timer.{Timer}
 use Rattle.rules.specs.declared.Table.{Table}
 use Rattle.rules.specs.Numbers.{taskRoom, priorityEnd, listEnd, regionRoom, mostEntries, queueRoom, places, storeSize, criterionEnd, eventEnd, timerRoom, tickEnd, longestDelay}
-use Rattle.rules.specs.Words.{isZero, all, every, below, within, past}
+use Rattle.rules.specs.Words.{isZero, all, every, below, within, past, names}
 use Rattle.rules.specs.Events.{met}
-use Rattle.rules.specs.Tasks.{stopped, isWaiting}
+use Rattle.rules.specs.Tasks.{stopped, ready, isWaiting}
 use Rattle.rules.specs.Regions.{held, occupied, holderOf}
 use Rattle.rules.specs.Queues.{behind}
 use Rattle.rules.specs.Timers.{ahead, isArmed}
 use Rattle.rules.specs.Election.{readyAt}
-use Rattle.rules.specs.Tables.{taskOf, electionOf}
+use Rattle.rules.specs.Urgency.{isOpen}
+use Rattle.rules.specs.Circles.{noCircle}
+use Rattle.rules.specs.Tables.{taskOf, statesOf, closedOf, electionOf}
 
 -- the arrays are as long as their types say: a definition sees an array as a list
 unfoldable pub shaped : Table → Bool
@@ -31,6 +33,8 @@ shaped t =
     ∷ eqb (length (t .element)) storeSize
     ∷ eqb (length (t .criterion)) storeSize
     ∷ eqb (length (t .timers)) timerRoom
+    ∷ eqb (length (t .awaits)) taskRoom
+    ∷ eqb (length (t .opened)) regionRoom
     ∷ [])
 
 -- ---- "Counts, priorities, bounds, event lists, operators, holders and stored criteria are in range."
@@ -63,6 +67,13 @@ operatorsInRange tasks operators = within tasks taskRoom (λ i. leb (getD operat
 unfoldable pub holdersInRange : ℕ → ℕ → List ℕ → Bool
 holdersInRange tasks regions holders = within regions regionRoom (λ r. leb (getD holders r 0) tasks)
 
+-- "00 closed or 01 open"
+abbrev pub markInRange : ℕ → Bool
+markInRange mark = leb mark 1
+
+unfoldable pub marksInRange : ℕ → List ℕ → Bool
+marksInRange regions opened = within regions regionRoom (λ r. markInRange (getD opened r 0))
+
 -- "a criterion 0 to 15"
 abbrev pub criterionInRange : ℕ → Bool
 criterionInRange c = ltb c criterionEnd
@@ -86,6 +97,8 @@ zeroPastCounts t =
     ∷ zeroPast (t .regions) regionRoom (t .entries)
     ∷ zeroPast (t .queues) queueRoom (t .bound)
     ∷ zeroPast (t .queues) queueRoom (t .length)
+    ∷ zeroPast (t .tasks) taskRoom (t .awaits)
+    ∷ zeroPast (t .regions) regionRoom (t .opened)
     ∷ [])
 
 unfoldable pub zeroPastLengths : List ℕ → List ℕ → List ℕ → Bool
@@ -115,7 +128,8 @@ statesRight t =
     within (t .tasks) taskRoom
     (λ i. stateRight (taskOf t i .state) (taskOf t i .arrived) (taskOf t i .list) (taskOf t i .operator))
 
--- ---- "A region is free or has one holder. All occupied regions have the same holder, which is ready and is the elected task."
+-- ---- "A region is free or has one holder. All occupied regions have the same holder, which is ready and is the elected task." Since T-09
+-- these rules "speak of closed regions only": `holders` are the closed regions' below, and 3 is no ready state.
 
 -- "A region counts its entries, 1 to 255"; "a free region has count 0"
 abbrev pub entriesFit : ℕ → ℕ → Bool
@@ -161,6 +175,26 @@ timerRight tasks states ticks r =
 unfoldable pub timersRight : ℕ → List ℕ → ℕ → List Timer → Bool
 timersRight tasks states ticks timers = ltb ticks tickEnd && every (timerRight tasks states ticks) timers
 
+-- ---- "an open region's holder is ready or in state 3": both are stored as ready
+
+unfoldable pub openHoldersRight : ℕ → List ℕ → List ℕ → List ℕ → Bool
+openHoldersRight regions states opened holders =
+    within regions regionRoom
+    (λ r. not (isOpen (getD opened r 0)) || (isZero (getD holders r 0) || readyAt states (getD holders r 0 - 1)))
+
+-- ---- "a state 3 task waits for one occupied open region of another's, and no free region is waited for"
+
+-- task i, its stored state, and mark and holder of the region that it waits for
+abbrev pub awaitFits : ℕ → ℕ → ℕ → ℕ → Bool
+awaitFits i state mark holder = all (eqb state ready ∷ isOpen mark ∷ not (isZero holder) ∷ not (names holder i) ∷ [])
+
+unfoldable pub awaitsRight : ℕ → List ℕ → List ℕ → List ℕ → List ℕ → Bool
+awaitsRight tasks states awaits opened holders =
+    within tasks taskRoom
+    (λ i.
+    isZero (getD awaits i 0)
+    || awaitFits i (getD states i 0) (getD opened (getD awaits i 0 - 1) 0) (getD holders (getD awaits i 0 - 1) 0))
+
 unfoldable pub valid : Table → Bool
 valid t =
     all (shaped t
@@ -177,10 +211,14 @@ valid t =
     ∷ restRight t
     ∷ statesRight t
     ∷ entriesRight (t .regions) (t .holder) (t .entries)
-    ∷ oneHolder (t .regions) (t .holder)
-    ∷ holderReady (t .state) (t .holder)
-    ∷ holderElected (t .elected) (t .holder)
+    ∷ oneHolder (t .regions) (closedOf t)
+    ∷ holderReady (statesOf t) (closedOf t)
+    ∷ holderElected (t .elected) (closedOf t)
     ∷ lengthsRight (t .queues) (t .bound) (t .length)
     ∷ electedRight t
     ∷ timersRight (t .tasks) (t .state) (t .ticks) (t .timers)
+    ∷ marksInRange (t .regions) (t .opened)
+    ∷ openHoldersRight (t .regions) (t .state) (t .opened) (t .holder)
+    ∷ noCircle (t .awaits) (t .holder)
+    ∷ awaitsRight (t .tasks) (t .state) (t .awaits) (t .opened) (t .holder)
     ∷ [])

@@ -39,6 +39,11 @@ pub const WAITING: u8 = 2;
 
 pub const SUSPENDED: u8 = 3;
 
+// The marks of a region.
+pub const CLOSED: u8 = 0;
+
+pub const OPEN: u8 = 1;
+
 // The thirteen operations.
 pub const START: u8 = 0;
 
@@ -66,7 +71,7 @@ pub const DISARM: u8 = 11;
 
 pub const TICK: u8 = 12;
 
-// What a call may change of a task; its priority is configured and stays. The state is 0 stopped, 1 ready, 2 waiting;
+// What a call may change of a task; its priority is configured and stays. The state is 0 stopped, 1 ready, 2 waiting for events;
 // bit i of `arrived` and `list` stands for event i.
 pub struct Task {
     pub state: u8,
@@ -92,7 +97,8 @@ pub struct Region {
 }
 
 // The executive's whole state. Tasks stand in columns, an array for each thing said of a task, so that a check goes through one at a
-// time and a function can be lent just those that it reads; regions likewise. Queue q has places 64 q to 64 q + 63 of the flat store,
+// time and a function can be lent just those that it reads; regions likewise. `awaits` has for each task 0, or the number plus 1 of the
+// region that it waits for: such a task is stored as ready, and its state is 3. `opened` has 1 for each open region. Queue q has places 64 q to 64 q + 63 of the flat store,
 // oldest element first.
 pub struct Table {
     pub tasks: u8,
@@ -104,8 +110,10 @@ pub struct Table {
     pub arrived: [u16; TASKS],
     pub list: [u16; TASKS],
     pub operator: [u8; TASKS],
+    pub awaits: [u8; TASKS],
     pub holder: [u8; REGIONS],
     pub entries: [u8; REGIONS],
+    pub opened: [u8; REGIONS],
     pub bound: [u8; QUEUES],
     pub length: [u8; QUEUES],
     pub element: [u32; STORE],

@@ -1,4 +1,4 @@
--- A fresh table from priorities and bounds that already stand in their arrays.
+-- A fresh table from priorities, bounds and marks that already stand in their arrays.
 use Prim.Native.Nat.{ℕ}
 use mathlib.Core.List.{List, [], _∷_}
 use lib.ListN.{replicate}
@@ -8,8 +8,8 @@ use Rattle.rules.specs.Words.{padded}
 use Rattle.rules.specs.Tasks.{stopped, ready}
 use Rattle.rules.specs.Timers.{idle}
 
-abbrev pub freshBy : ℕ → ℕ → ℕ → List ℕ → List ℕ → Table
-freshBy tasks regions queues priority bound =
+abbrev pub freshBy : ℕ → ℕ → ℕ → List ℕ → List ℕ → List ℕ → Table
+freshBy tasks regions queues priority bound opened =
     record {
       tasks = tasks;
       regions = regions;
@@ -20,8 +20,10 @@ freshBy tasks regions queues priority bound =
       arrived = replicate taskRoom 0;
       list = replicate taskRoom 0;
       operator = replicate taskRoom 0;
+      awaits = replicate taskRoom 0;
       holder = replicate regionRoom 0;
       entries = replicate regionRoom 0;
+      opened = opened;
       bound = bound;
       length = replicate queueRoom 0;
       element = replicate storeSize 0;

@@ -20,9 +20,9 @@ ghost use mathlib.Core.Bool.{true};
 ghost use Prim.Native.Nat.{_≤_};
 ghost use lib.Dec.{ltb};
 ghost use lib.ListN.{length, take};
-ghost use Rattle.rules.specs.Numbers.{taskRoom, priorityEnd, queueRoom};
+ghost use Rattle.rules.specs.Numbers.{taskRoom, priorityEnd, regionRoom, queueRoom};
 ghost use Rattle.rules.specs.Words.{every, padded};
-ghost use Rattle.rules.specs.Validity.{boundInRange};
+ghost use Rattle.rules.specs.Validity.{boundInRange, markInRange};
 
 // The table of zeros, which stands for a refused configuration.
 fn zero_table() -> Table
@@ -38,8 +38,10 @@ fn zero_table() -> Table
         arrived: [0; TASKS],
         list: [0; TASKS],
         operator: [0; TASKS],
+        awaits: [0; TASKS],
         holder: [0; REGIONS],
         entries: [0; REGIONS],
+        opened: [0; REGIONS],
         bound: [0; QUEUES],
         length: [0; QUEUES],
         element: [0; STORE],
@@ -76,8 +78,9 @@ fn fresh_table(
     queues: u8,
     priority: [u8; TASKS],
     bound: [u8; QUEUES],
+    opened: [u8; REGIONS],
 ) -> Table
-    ensures { λ r. ⌜ r ≡ freshBy tasks regions queues priority bound ⌝ }
+    ensures { λ r. ⌜ r ≡ freshBy tasks regions queues priority bound opened ⌝ }
 {
     let mut t = zero_table();
     t.tasks = tasks;
@@ -86,6 +89,7 @@ fn fresh_table(
     t.priority = priority;
     t.state[0] = READY;
     t.bound = bound;
+    t.opened = opened;
     t
 }
 
@@ -114,6 +118,18 @@ fn bounds_of(queues: usize, bounds: &[u8]) -> [u8; QUEUES]
     out
 }
 
+// The first `regions` marks, and zeros behind them.
+fn marks_of(regions: usize, marks: &[u8]) -> [u8; REGIONS]
+    requires { ⌜ (regions ≤ regionRoom) × (regions ≤ length (now marks)) ⌝ }
+    ensures { λ r. ⌜ r ≡ padded regionRoom 0 (take regions (now (marks .entry))) ⌝ }
+{
+    let mut out = [0u8; REGIONS];
+    for i in 0..regions {
+        out[i] = marks[i];
+    }
+    out
+}
+
 fn bound_right(bound: u8) -> bool
     ensures { λ r. ⌜ r ≡ boundInRange bound ⌝ }
 {
@@ -132,9 +148,35 @@ fn bounds_right(queues: usize, bounds: &[u8]) -> bool
     ok
 }
 
+// 0 closed or 1 open.
+fn mark_right(mark: u8) -> bool
+    ensures { λ r. ⌜ r ≡ markInRange mark ⌝ }
+{
+    mark <= 1
+}
+
+// Each of the first `regions` marks is in range.
+fn marks_right(regions: usize, marks: &[u8]) -> bool
+    requires { ⌜ regions ≤ length (now marks) ⌝ }
+    ensures { λ r. ⌜ r ≡ every markInRange (take regions (now (marks .entry))) ⌝ }
+{
+    let mut ok = true;
+    for i in 0..regions {
+        ok = ok & mark_right(marks[i]);
+    }
+    ok
+}
+
 // Lists longer than their counts are taken as far as the counts go; shorter ones are out of range.
-pub fn fresh<'a>(tasks: u8, regions: u8, queues: u8, priorities: &'a [u8], bounds: &'a [u8]) -> Done
-    ensures { λ r. ⌜ r ≡ freshDone tasks regions queues (now (priorities .entry)) (now (bounds .entry)) ⌝ }
+pub fn fresh<'a>(
+    tasks: u8,
+    regions: u8,
+    queues: u8,
+    priorities: &'a [u8],
+    bounds: &'a [u8],
+    marks: &'a [u8],
+) -> Done
+    ensures { λ r. ⌜ r ≡ freshDone tasks regions queues (now (priorities .entry)) (now (bounds .entry)) (now (marks .entry)) ⌝ }
 {
     if !counts_right(tasks, regions, queues) {
         return out_of_range();
@@ -145,13 +187,20 @@ pub fn fresh<'a>(tasks: u8, regions: u8, queues: u8, priorities: &'a [u8], bound
     if bounds.len() < (queues as usize) {
         return out_of_range();
     }
+    if marks.len() < (regions as usize) {
+        return out_of_range();
+    }
     if !bounds_right(queues as usize, bounds) {
+        return out_of_range();
+    }
+    if !marks_right(regions as usize, marks) {
         return out_of_range();
     }
     let priority = priorities_of(tasks as usize, priorities);
     let bound = bounds_of(queues as usize, bounds);
+    let opened = marks_of(regions as usize, marks);
     Done {
-        table: fresh_table(tasks, regions, queues, priority, bound),
+        table: fresh_table(tasks, regions, queues, priority, bound, opened),
         answer: Answer {
             status: 0,
             value: 0,

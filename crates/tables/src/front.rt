@@ -21,8 +21,10 @@ pub struct Front {
     pub arrived: [u16; TASKS],
     pub list: [u16; TASKS],
     pub operator: [u8; TASKS],
+    pub awaits: [u8; TASKS],
     pub holder: [u8; REGIONS],
     pub entries: [u8; REGIONS],
+    pub opened: [u8; REGIONS],
     pub bound: [u8; QUEUES],
     pub length: [u8; QUEUES],
     pub ticks: u32,
@@ -43,8 +45,10 @@ pub fn front_of(t: Table) -> Front
     let arrived = t.arrived;
     let list = t.list;
     let operator = t.operator;
+    let awaits = t.awaits;
     let holder = t.holder;
     let entries = t.entries;
+    let opened = t.opened;
     let bound = t.bound;
     let lengths = t.length;
     let timers = t.timers;
@@ -58,8 +62,10 @@ pub fn front_of(t: Table) -> Front
         arrived: arrived,
         list: list,
         operator: operator,
+        awaits: awaits,
         holder: holder,
         entries: entries,
+        opened: opened,
         bound: bound,
         length: lengths,
         ticks: t.ticks,
@@ -75,8 +81,10 @@ pub fn table_of(f: Front, element: [u32; STORE], criterion: [u8; STORE]) -> Tabl
     let arrived = f.arrived;
     let list = f.list;
     let operator = f.operator;
+    let awaits = f.awaits;
     let holder = f.holder;
     let entries = f.entries;
+    let opened = f.opened;
     let bound = f.bound;
     let lengths = f.length;
     let timers = f.timers;
@@ -90,8 +98,10 @@ pub fn table_of(f: Front, element: [u32; STORE], criterion: [u8; STORE]) -> Tabl
         arrived: arrived,
         list: list,
         operator: operator,
+        awaits: awaits,
         holder: holder,
         entries: entries,
+        opened: opened,
         bound: bound,
         length: lengths,
         element: element,

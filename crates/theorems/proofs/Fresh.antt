@@ -2,7 +2,7 @@
 use Prim.Native.Nat.{ℕ, zero, suc, _+_, _<_, _≤_}
 use mathlib.Core.Path.{_≡_, refl, sym, _∙_}
 use mathlib.Core.Logic.{_⊎_, inl, inr, ⊎-elim}
-use mathlib.Core.Bool.{Bool, true, false, false≢true}
+use mathlib.Core.Bool.{Bool, true, false, cond, not, _&&_, _||_, false≢true}
 use mathlib.Core.List.{List, [], _∷_}
 use native.Mathlib.Omega.{arith}
 use lib.Dec.{eqb, ltb}
@@ -14,20 +14,26 @@ use Rattle.rules.specs.Tasks.{stopped, ready}
 use Rattle.rules.specs.Regions.{held}
 use Rattle.rules.specs.Queues.{firstPlace, behind}
 use Rattle.rules.specs.Timers.{idle}
-use Rattle.rules.specs.Election.{bestReady, readyAt, priorityAt, Wins}
-use Rattle.rules.specs.Validity.{shaped, countsInRange, boundInRange, criterionInRange, criteriaInRange, stateRight, timerRight, valid}
+use Rattle.rules.specs.Election.{bestReady, readyAt, priorityAt, election, Wins}
+use Rattle.rules.specs.Urgency.{isOpen, closedHolders, nobodyAwaits, statesWith, urgencies}
+use Rattle.rules.specs.Circles.{ends, noCircle}
+use Rattle.rules.specs.Validity.{shaped, countsInRange, boundInRange, markInRange, criterionInRange, criteriaInRange, stateRight, timerRight, valid}
 use Rattle.rules.specs.Fresh.{configurationInRange, freshTable, zeroTable}
-use Rattle.rules.proofs.Bools.{given, shown, both, or-second}
+use Rattle.rules.proofs.Bools.{_&_, given, shown, both, or-first, or-second}
 use Rattle.rules.proofs.Counts.{below-all}
 use Rattle.rules.proofs.Lists.{every-in, every-take, every-drop, every-replicate, length-padded, padded-at, padded-past}
 use Rattle.rules.proofs.Election.{wins-alone, best-wins, election-free}
-use Rattle.rules.specs.Checks.{rowFits, rowZero, tasksRight, entriesEverywhere, holderRight, boundFits, queueRight, queuesRight}
+use Rattle.rules.specs.Checks.{rowFits, rowZero, tasksRight, regionFits, regionsRight, entriesEverywhere, holderRight, openHolderFits, openHoldersFit, awaitsFit, boundFits, queueRight, queuesRight}
 use Rattle.rules.proofs.Rules.{Parts, counts-fit}
 use Rattle.rules.proofs.ValidTasks.{row-shown}
 use Rattle.rules.proofs.Validity.{valid-parts}
 use Rattle.theorems.proofs.ArmedTimers.{idle-right, timers-shown}
 use Rattle.theorems.specs.Kept.{FreshValid, ZerosInvalid}
-use Rattle.theorems.proofs.Regions.{free-fits}
+use Rattle.rules.proofs.Ways.{onward-none, ends-here}
+use Rattle.rules.proofs.States.{closed-at, length-closed}
+use Rattle.rules.proofs.Urgency.{states-quiet, urgencies-quiet}
+use Rattle.theorems.proofs.HeldRegions.{held-at}
+use Rattle.theorems.proofs.Lines.{awaits-shown}
 
 pub zeros-invalid : ZerosInvalid
 unfolding valid zeroTable all shaped countsInRange
@@ -84,10 +90,16 @@ row-fits tasks i p s a l o fits past one x y z = rw (x, y, z) (go (ltb i tasks) 
         }))
     go false e = let z = past (ltb-false i tasks e) in rw (e, z .0, z .1) (shown _ (refl, (refl, (refl, (refl, (refl, tt))))))
 
+-- a mark is 0 or 1
+mark-cases : (mark : ℕ) → markInRange mark ≡ true → (isZero mark || isOpen mark) ≡ true
+mark-cases zero h = refl
+mark-cases (suc zero) h = refl
+mark-cases (suc (suc more)) h = let most = leb-true (suc (suc more)) 1 h in absurd (omega arith)
+
 -- ---- the table
 
 -- the configuration, test by test
-record Range (tasks regions queues : ℕ) (priorities bounds : List ℕ) : Type 0 where
+record Range (tasks regions queues : ℕ) (priorities bounds marks : List ℕ) : Type 0 where
   counts : countsInRange tasks regions queues ≡ true
   some : 0 < tasks
   tasks-room : tasks ≤ taskRoom
@@ -96,12 +108,15 @@ record Range (tasks regions queues : ℕ) (priorities bounds : List ℕ) : Type 
   bounds-long : queues ≤ length bounds
   priorities-fit : every (λ p. ltb p priorityEnd) (take tasks priorities) ≡ true
   bounds-fit : every boundInRange (take queues bounds) ≡ true
+  regions-room : regions ≤ regionRoom
+  marks-long : regions ≤ length marks
+  marks-fit : every markInRange (take regions marks) ≡ true
 
-in-range : (tasks regions queues : ℕ) (priorities bounds : List ℕ) → configurationInRange tasks regions queues priorities bounds ≡ true
-    → Range tasks regions queues priorities bounds
+in-range : (tasks regions queues : ℕ) (priorities bounds marks : List ℕ) → configurationInRange tasks regions queues priorities bounds marks ≡ true
+    → Range tasks regions queues priorities bounds marks
 unfolding configurationInRange countsInRange
-in-range tasks regions queues priorities bounds h =
-    let (a, (b, (c, (d, (e, rest))))) = given _ h in
+in-range tasks regions queues priorities bounds marks h =
+    let (a, (b, (c, (m, (d, (e, (f, rest))))))) = given _ h in
     let fit = counts-fit tasks regions queues a in
     record {
       counts = a;
@@ -112,9 +127,12 @@ in-range tasks regions queues priorities bounds h =
       bounds-long = leb-true _ _ c;
       priorities-fit = d;
       bounds-fit = e;
+      regions-room = fit .1;
+      marks-long = leb-true _ _ m;
+      marks-fit = f;
     }
 
-module _ (tasks regions queues : ℕ) (priorities bounds : List ℕ) (r : Range tasks regions queues priorities bounds) where
+module _ (tasks regions queues : ℕ) (priorities bounds marks : List ℕ) (r : Range tasks regions queues priorities bounds marks) where
   priority : List ℕ
   priority = padded taskRoom 0 (take tasks priorities)
 
@@ -173,6 +191,75 @@ module _ (tasks regions queues : ℕ) (priorities bounds : List ℕ) (r : Range 
       both {a = boundFits queues q (getD bound q 0) n} (bound-right q n (getD-replicate queueRoom q 0 0 k) (ltb q queues) refl)
       (both {a = every isZero (behind q n store)} (behind-free q n) (behind-free q n)))
 
+  opened : List ℕ
+  opened = padded regionRoom 0 (take regions marks)
+
+  mark-past : (i : ℕ) → regions ≤ i → getD opened i 0 ≡ 0
+  unfolding opened
+  mark-past = column-past regionRoom regions marks (r .regions-room) (r .marks-long)
+
+  mark-in : (i : ℕ) → i < regions → markInRange (getD opened i 0) ≡ true
+  unfolding opened
+  mark-in = column-in regionRoom regions marks (r .regions-room) (r .marks-long) markInRange (r .marks-fit)
+
+  free : List ℕ
+  free = replicate regionRoom 0
+
+  free-at : (i : ℕ) → i < regionRoom → getD free i 0 ≡ 0
+  unfolding free
+  free-at i k = getD-replicate regionRoom i 0 0 k
+
+  -- every region is free, so that none counts as a closed one's, and nobody waits
+  closed-free : held (closedHolders opened free) ≡ 0
+  closed-free = ⊎-elim (λ z. z) at (held-at (closedHolders opened free))
+    where
+      none : (i : ℕ) → i < regionRoom → (b : Bool) → cond b 0 (getD free i 0) ≡ 0
+      none i k true = refl
+      none i k false = free-at i k
+
+      at : (i : ℕ) × (i < length (closedHolders opened free)) × (getD (closedHolders opened free) i 0 ≡ held (closedHolders opened free))
+          → held (closedHolders opened free) ≡ 0
+      at q =
+          let k : q .0 < regionRoom = omega (arith, q .1, length-closed opened free) in
+          sym (q .2) ∙ closed-at opened free (q .0) k ∙ none (q .0) k (isOpen (getD opened (q .0) 0))
+
+  regions-fit : (v : ℕ) → regionsRight regions v opened free ≡ true
+  unfolding regionsRight regionFits
+  regions-fit v = below-all _ regionRoom (λ i k. both (marked i (ltb i regions) refl) (or-first _ _ (eq-eqb _ 0 (free-at i k))))
+    where
+      marked : (i : ℕ) (b : Bool) → ltb i regions ≡ b → (isZero (getD opened i 0) || (ltb i regions && isOpen (getD opened i 0))) ≡ true
+      marked i true e = rw e (mark-cases (getD opened i 0) (mark-in i (ltb-true i regions e)))
+      marked i false e = or-first _ _ (eq-eqb _ 0 (mark-past i (ltb-false i regions e)))
+
+  open-fit : openHoldersFit tasks states opened free ≡ true
+  unfolding openHoldersFit openHolderFits
+  open-fit = below-all _ regionRoom (λ i k. or-second (not (isOpen (getD opened i 0))) _ (or-first _ _ (eq-eqb _ 0 (free-at i k))))
+
+  awaits-none : (i : ℕ) → i < taskRoom → getD zeros i 0 ≡ 0
+  unfolding zeros
+  awaits-none i k = getD-replicate taskRoom i 0 0 k
+
+  awaits-fit : awaitsFit tasks states zeros opened free ≡ true
+  awaits-fit = awaits-shown tasks states zeros opened free (λ j q k e. let z = awaits-none j k in absurd (omega arith))
+
+  circle-free : noCircle zeros free ≡ true
+  unfolding noCircle
+  circle-free = below-all (ends zeros free taskRoom) taskRoom (λ i k. ends-here zeros free taskRoom i (onward-none zeros free i (awaits-none i k)))
+
+  quiet : nobodyAwaits zeros ≡ true
+  unfolding nobodyAwaits
+  quiet = below-all _ taskRoom (λ i k. eq-eqb _ 0 (awaits-none i k))
+
+  states-stored : statesWith zeros states ≡ states
+  unfolding states padded
+  states-stored = states-quiet zeros states quiet refl
+
+  urgencies-own : urgencies priority zeros opened free ≡ priority
+  unfolding priority
+  urgencies-own =
+      urgencies-quiet priority zeros opened free quiet (column-length taskRoom tasks priorities (r .tasks-room) (r .priorities-long))
+      (λ i k. let s = small i k in omega arith)
+
   elected-first : bestReady states priority ≡ 0
   unfolding states padded
   elected-first = wins-alone states priority _ 0 (best-wins states priority small 0 (omega arith, refl)) first
@@ -185,28 +272,37 @@ module _ (tasks regions queues : ℕ) (priorities bounds : List ℕ) (r : Range 
           only zero h = inr (refl, omega arith)
           only (suc i) h = absurd (false≢true (rw (state-past (suc i) (omega arith)) at h))
 
-  fresh-parts : Parts (freshTable tasks regions queues priorities bounds)
-  unfolding freshTable shaped held entriesEverywhere below holderRight criteriaInRange priority bound states zeros store padded
+  elects : election (statesWith zeros states) (urgencies priority zeros opened free) (closedHolders opened free) ≡ 0
+  elects = rw (states-stored, urgencies-own) (election-free states priority (closedHolders opened free) (rw closed-free refl) ∙ elected-first)
+
+  fresh-parts : Parts (freshTable tasks regions queues priorities bounds marks)
+  unfolding freshTable shaped entriesEverywhere below holderRight criteriaInRange priority bound states zeros store opened free padded
   fresh-parts =
       record {
         shape =
-            shown _ (
-              eq-eqb _ _ (column-length taskRoom tasks priorities (r .tasks-room) (r .priorities-long)),
-              (refl, (refl, (refl, (refl, (refl, (refl, (eq-eqb _ _ (column-length queueRoom queues bounds (r .queues-room) (r .bounds-long)), (refl, (refl, (refl, (refl, tt))))))))))),
-            );
+            shown _
+            (eq-eqb _ _ (column-length taskRoom tasks priorities (r .tasks-room) (r .priorities-long))
+            & refl & refl & refl & refl & refl & refl
+            & eq-eqb _ _ (column-length queueRoom queues bounds (r .queues-room) (r .bounds-long))
+            & refl & refl & refl & refl & refl
+            & eq-eqb _ _ (column-length regionRoom regions marks (r .regions-room) (r .marks-long))
+            & tt);
         counts = r .counts;
         tasks = tasks-fit;
-        regions = free-fits regions 0 (replicate regionRoom 0) refl;
+        regions = regions-fit (held (closedHolders opened free));
         entries = refl;
-        holder = refl;
+        holder = rw closed-free refl;
+        open-holders = open-fit;
+        awaits = awaits-fit;
+        no-circle = circle-free;
         queues = queues-fit;
         criteria = every-replicate criterionInRange storeSize 0 refl;
-        elected = sym (election-free states priority (replicate regionRoom 0) refl ∙ elected-first);
+        elected = sym elects;
         timers =
             timers-shown tasks states 0 (replicate timerRoom idle) (omega arith)
             (every-replicate (timerRight tasks states 0) timerRoom idle (idle-right tasks states 0));
       }
 
 pub fresh-valid : FreshValid
-fresh-valid tasks regions queues priorities bounds h =
-    valid-parts _ (fresh-parts tasks regions queues priorities bounds (in-range tasks regions queues priorities bounds h))
+fresh-valid tasks regions queues priorities bounds marks h =
+    valid-parts _ (fresh-parts tasks regions queues priorities bounds marks (in-range tasks regions queues priorities bounds marks h))

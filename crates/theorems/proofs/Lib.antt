@@ -2,9 +2,11 @@
 pub mod Columns
 pub mod Tasks
 pub mod HeldRegions
+pub mod Lines
 pub mod ArmedTimers
 pub mod Rows
 pub mod Regions
+pub mod Entering
 pub mod Queues
 pub mod Timers
 pub mod Kept
@@ -16,5 +18,10 @@ pub mod Order
 pub mod Damaged
 pub mod Refused
 pub mod Running
+pub mod Urgency
+pub mod HandedOn
+pub mod Along
+pub mod Former
+pub mod FormerStep
 pub mod Displaced
 pub mod Listed

@@ -8,7 +8,7 @@ use borrow.Author.Tests.{ltb-true, ltb-false, lt-ltb}
 use Rattle.rules.specs.declared.Table.{Table}
 use Rattle.rules.specs.declared.Call.{Call}
 use Rattle.rules.specs.Validity.{valid}
-use Rattle.rules.specs.Refusals.{missing, wrongState, leaves, reasons, refusal}
+use Rattle.rules.specs.Refusals.{missing, wrongState, leaves, inside, closesCircle, stopsHolder, reasons, refusal}
 use Rattle.rules.specs.Effects.{effect}
 use Rattle.rules.specs.Step.{step}
 use Rattle.rules.proofs.Effects.{upto}
@@ -20,7 +20,7 @@ module _ (t : Table) (k : Call) where
 
   -- an operation that exists: what is computed has no other number in it
   known : k .operation < 13 → step t k ≡ step t (asListed k)
-  unfolding step refusal reasons missing wrongState leaves effect
+  unfolding step refusal reasons missing wrongState leaves inside closesCircle stopsHolder effect
   known h =
       upto 13 Same (
         λ e. rw e refl,

@@ -81,6 +81,9 @@ module _ (t : Table) (p : Parts t) (q : ℕ) (l : q < t .queues) where
           regions = p .regions;
           entries = p .entries;
           holder = p .holder;
+          open-holders = p .open-holders;
+          awaits = p .awaits;
+          no-circle = p .no-circle;
           queues = queues-kept;
           criteria = every-laid criterionInRange q (criteria queue) (t .criterion) refl (p .criteria) small;
           elected = refl;

@@ -1,34 +1,39 @@
 -- A task's row stays right: what each operation makes of one task, and the table with that task changed.
 use Prim.Native.Nat.{ℕ, zero, suc, _-_, _<_}
-use mathlib.Core.Path.{_≡_, refl, _∙_}
-use mathlib.Core.Logic.{_≢_}
+use mathlib.Core.Path.{_≡_, refl, sym, ap, _∙_}
+use mathlib.Core.Logic.{_≢_, _⊎_, inl, inr, ⊎-elim}
 use mathlib.Core.Bool.{Bool, true, false, not, _&&_, false≢true, true≢false}
 use mathlib.Core.List.{List, map}
 use native.Mathlib.Omega.{arith}
 use lib.Dec.{eqb, ltb, leb}
-use lib.ListN.{getD, set, length}
+use lib.ListN.{getD, set, length, length-set}
 use lib.Seq.{getD-set-same, getD-set-other}
-use borrow.Author.Tests.{eqb-true, eqb-false, ltb-true, lt-ltb}
+use borrow.Author.Tests.{eqb-true, eqb-false, eq-eqb, ne-eqb, ltb-true, lt-ltb}
 use Rattle.rules.specs.declared.Task.{Task}
 use Rattle.rules.specs.declared.Timer.{Timer}
 use Rattle.rules.specs.declared.Table.{Table}
-use Rattle.rules.specs.Numbers.{taskRoom, eventEnd, listEnd}
+use Rattle.rules.specs.Numbers.{taskRoom, regionRoom, eventEnd, listEnd}
 use Rattle.rules.specs.Words.{isZero}
 use Rattle.rules.specs.Events.{met, arrive, cleared}
 use Rattle.rules.specs.Tasks.{isStopped, isReady, asStarted, asStopped, woken, signalled, waited, asCleared}
 use Rattle.rules.specs.Regions.{held}
 use Rattle.rules.specs.Election.{readyAt}
 use Rattle.rules.specs.Timers.{disarmed}
-use Rattle.rules.specs.Tables.{withTask, withTimers, settled}
+use Rattle.rules.specs.Urgency.{isOpen, holdsOpen, statesWith}
+use Rattle.rules.specs.Circles.{noCircle}
+use Rattle.rules.specs.Tables.{statesOf, closedOf, withTask, withTimers, settled}
 use Rattle.rules.specs.Validity.{shaped, timerRight, timersRight}
 use Rattle.rules.proofs.Bools.{and-left, and-right, both, not-intro}
 use Rattle.rules.proofs.Counts.{below-at, below-all}
 use Rattle.rules.proofs.Events.{arrive-lt, cleared-le}
 use Rattle.theorems.proofs.Columns.{columns-long, shaped-with}
 use Rattle.theorems.proofs.ArmedTimers.{every-map, every-kept, awake-right, stopped-right, counter-fits, each-right, timers-shown}
-use Rattle.rules.specs.Checks.{rowFits, tasksRight, holderRight}
+use Rattle.rules.specs.Checks.{rowFits, tasksRight, holderRight, openHolderFits, openHoldersFit, awaitsFit}
+use Rattle.rules.proofs.States.{ready-stored, ready-free, ready-shown}
 use Rattle.rules.proofs.Rules.{Parts, counts-fit}
-use Rattle.rules.proofs.ValidTasks.{Row, row-shown}
+use Rattle.rules.proofs.ValidTasks.{Row, row-shown, length-states-of}
+use Rattle.theorems.proofs.HeldRegions.{holds-open}
+use Rattle.theorems.proofs.Lines.{Lined, lined, awaits-shown, withLine}
 
 -- a task with this priority is right
 abbrev pub Fits : ℕ → Task → Type 0
@@ -136,6 +141,14 @@ signalled-fits e k priority r = go (r .state) (r .arrived) (r .list) (r .operato
 pub below-room : (t : Table) → Parts t → (i : ℕ) → i < t .tasks → i < taskRoom
 below-room t p i l = omega (arith, counts-fit _ _ _ (p .counts) .0)
 
+-- every task waits as it did, or no longer
+abbrev pub Shorter : List ℕ → List ℕ → Type 0
+Shorter before line = (j : ℕ) → (getD line j 0 ≡ 0) ⊎ (getD line j 0 ≡ getD before j 0)
+
+-- a task that holds a closed region, or an open one, or waits for one: it has to be stored as ready
+abbrev pub Used : Table → List ℕ → ℕ → Type 0
+Used t line i = (held (closedOf t) ≡ suc i) ⊎ ((holdsOpen (t .opened) (t .holder) i ≡ true) ⊎ (getD line i 0 ≢ 0))
+
 module _ (t : Table) (p : Parts t) (i : ℕ) (r : Task) (l : i < t .tasks) where
   room : i < taskRoom
   room = below-room t p i l
@@ -186,45 +199,95 @@ module _ (t : Table) (p : Parts t) (i : ℕ) (r : Task) (l : i < t .tasks) where
       timers-shown (t .tasks) _ (t .ticks) (map (disarmed i) (t .timers)) (counter-fits _ _ _ _ (p .timers))
       (every-map (timerRight (t .tasks) (t .state) (t .ticks)) _ (disarmed i) (λ q h. stopped-right (t .tasks) (t .state) (t .ticks) q h i (r .state)) (t .timers) (each-right _ _ _ _ (p .timers)))
 
-  -- the holder is ready still: where it is the task that is changed, that one is
-  holder-kept : (isZero (held (t .holder)) ≡ false → held (t .holder) - 1 ≡ i → readyAt (t .state) i ≡ true → isReady r ≡ true)
-      → holderRight (t .tasks) (set (t .state) i (r .state)) (held (t .holder)) ≡ true
-  unfolding holderRight
-  holder-kept k = go (isZero (held (t .holder))) refl
-    where
-      go : (b : Bool) → isZero (held (t .holder)) ≡ b → holderRight (t .tasks) (set (t .state) i (r .state)) (held (t .holder)) ≡ true
-      go true e = rw e refl
-      go false e = rw e (both {a = leb (held (t .holder)) (t .tasks)} (and-left _ _ was) (at (eqb (held (t .holder) - 1) i) refl))
-        where
-          was : (leb (held (t .holder)) (t .tasks) && readyAt (t .state) (held (t .holder) - 1)) ≡ true
-          was = rw e at (p .holder)
+  -- ---- the table with its timers, and with the task in its line as before or out of it
 
-          at : (b : Bool) → eqb (held (t .holder) - 1) i ≡ b → readyAt (set (t .state) i (r .state)) (held (t .holder) - 1) ≡ true
-          at true f =
-              let same = eqb-true (held (t .holder) - 1) i f in
-              rw (same, getD-set-same (t .state) i (r .state) 0 (rw (columns-long t (p .shape) .state) room))
-              (k e same (rw same at (and-right (leb (held (t .holder)) (t .tasks)) _ was)))
-          at false f =
-              rw (getD-set-other (t .state) i (held (t .holder) - 1) (r .state) 0 (eqb-false _ _ f))
-              (and-right (leb (held (t .holder)) (t .tasks)) _ was)
+  module _ (line : List ℕ) (shorter : Shorter (t .awaits) line) (stays : Used t line i → readyAt (t .state) i ≡ true → isReady r ≡ true) where
+    state-long : length (set (t .state) i (r .state)) ≡ taskRoom
+    state-long = length-set (t .state) i (r .state) ∙ length-states-of t (p .shape)
 
-  -- and the timers with it
-  pub keep-task : Fits (getD (t .priority) i 0) r
-      → (isZero (held (t .holder)) ≡ false → held (t .holder) - 1 ≡ i → readyAt (t .state) i ≡ true → isReady r ≡ true) → (timers : List Timer)
-      → length timers ≡ length (t .timers)
-      → timersRight (t .tasks) (set (t .state) i (r .state)) (t .ticks) timers ≡ true
-      → Parts (settled (withTimers (t .ticks) timers (withTask i r t)))
-  unfolding shaped
-  keep-task f k timers long right =
-      record {
-        shape = rw long (shaped-with i r t ∙ p .shape);
-        counts = p .counts;
-        tasks = tasks-kept f;
-        regions = p .regions;
-        entries = p .entries;
-        holder = holder-kept k;
-        queues = p .queues;
-        criteria = p .criteria;
-        elected = refl;
-        timers = right;
-      }
+    -- a task that was stored as ready still is, if it is another, or has to be
+    ready-then : (j : ℕ) → (j ≡ i → Used t line i) → readyAt (t .state) j ≡ true → readyAt (set (t .state) i (r .state)) j ≡ true
+    ready-then j used was = go (eqb j i) refl
+      where
+        go : (b : Bool) → eqb j i ≡ b → readyAt (set (t .state) i (r .state)) j ≡ true
+        go true e =
+            let same = eqb-true j i e in
+            rw (same, getD-set-same (t .state) i (r .state) 0 (rw (columns-long t (p .shape) .state) room)) (stays (used same) (rw same at was))
+        go false e = rw (getD-set-other (t .state) i j (r .state) 0 (eqb-false j i e)) was
+
+    holder-kept : holderRight (t .tasks) (statesWith line (set (t .state) i (r .state))) (held (closedOf t)) ≡ true
+    unfolding holderRight
+    holder-kept = go (held (closedOf t)) refl (p .holder)
+      where
+        go : (v : ℕ) → held (closedOf t) ≡ v → holderRight (t .tasks) (statesOf t) v ≡ true
+            → holderRight (t .tasks) (statesWith line (set (t .state) i (r .state))) v ≡ true
+        go zero e was = refl
+        go (suc k) e was =
+            let less : suc k - 1 ≡ k = omega arith in
+            let some : isZero (suc k) ≡ false = ne-eqb (suc k) 0 (λ z. omega arith) in
+            let held-then : (leb (suc k) (t .tasks) && readyAt (statesOf t) k) ≡ true = rw (some, less) at was in
+            let shown = and-right (leb (suc k) (t .tasks)) _ held-then in
+            let free = ready-free (t .awaits) (t .state) (length-states-of t (p .shape)) k shown in
+            let stored = ready-stored (t .awaits) (t .state) (length-states-of t (p .shape)) k shown in
+            rw (some, less)
+            (both {a = leb (suc k) (t .tasks)} (and-left _ _ held-then)
+            (ready-shown line (set (t .state) i (r .state)) state-long k (eq-eqb _ 0 (⊎-elim (λ z. z) (λ same. same ∙ free) (shorter k)))
+            (ready-then k (λ same. inl (e ∙ ap suc same)) stored)))
+
+    open-holders-kept : openHoldersFit (t .tasks) (set (t .state) i (r .state)) (t .opened) (t .holder) ≡ true
+    unfolding openHoldersFit openHolderFits
+    open-holders-kept =
+        below-all _ regionRoom (λ q k. go q k (isOpen (getD (t .opened) q 0)) refl (getD (t .holder) q 0) refl (below-at _ regionRoom q (p .open-holders) k))
+      where
+        go : (q : ℕ) → q < regionRoom → (b : Bool) → isOpen (getD (t .opened) q 0) ≡ b → (h : ℕ) → getD (t .holder) q 0 ≡ h
+            → openHolderFits (t .tasks) (t .state) (getD (t .opened) q 0) h ≡ true
+            → openHolderFits (t .tasks) (set (t .state) i (r .state)) (getD (t .opened) q 0) h ≡ true
+        go q k false e h f was = rw e refl
+        go q k true e zero f was = rw e refl
+        go q k true e (suc j) f was =
+            let less : suc j - 1 ≡ j = omega arith in
+            let some : isZero (suc j) ≡ false = ne-eqb (suc j) 0 (λ z. omega arith) in
+            let held-then : (leb (suc j) (t .tasks) && readyAt (t .state) j) ≡ true = rw (e, some, less) at was in
+            rw (e, some, less)
+            (both {a = leb (suc j) (t .tasks)} (and-left _ _ held-then)
+            (ready-then j
+            (λ same. inr (inl (holds-open (t .opened) (t .holder) i q k (both {a = isOpen (getD (t .opened) q 0)} e (eq-eqb _ (suc i) (f ∙ ap suc same))))))
+            (and-right (leb (suc j) (t .tasks)) _ held-then)))
+
+    awaits-kept : awaitsFit (t .tasks) (set (t .state) i (r .state)) line (t .opened) (t .holder) ≡ true
+    awaits-kept =
+        awaits-shown (t .tasks) (set (t .state) i (r .state)) line (t .opened) (t .holder)
+        (λ j q k e. ⊎-elim (λ z. absurd (omega arith)) (λ same. go j q e (lined t p j q k (sym same ∙ e))) (shorter j))
+      where
+        go : (j q : ℕ) → getD line j 0 ≡ suc q → Lined (t .tasks) j (getD (t .state) j 0) (getD (t .opened) q 0) (getD (t .holder) q 0)
+            → Lined (t .tasks) j (getD (set (t .state) i (r .state)) j 0) (getD (t .opened) q 0) (getD (t .holder) q 0)
+        go j q e l =
+            record {
+              task = l .task;
+              is-ready = ready-then j (λ same. inr (inr (λ z. let some = rw same at e in absurd (omega arith)))) (l .is-ready);
+              is-open = l .is-open;
+              occupied = l .occupied;
+              others = l .others;
+            }
+
+    pub keep-task : length line ≡ length (t .awaits) → noCircle line (t .holder) ≡ true → Fits (getD (t .priority) i 0) r → (timers : List Timer)
+        → length timers ≡ length (t .timers)
+        → timersRight (t .tasks) (set (t .state) i (r .state)) (t .ticks) timers ≡ true
+        → Parts (settled (withLine line (withTimers (t .ticks) timers (withTask i r t))))
+    unfolding shaped
+    keep-task line-long none f timers long right =
+        record {
+          shape = rw (long, line-long) (shaped-with i r t ∙ p .shape);
+          counts = p .counts;
+          tasks = tasks-kept f;
+          regions = p .regions;
+          entries = p .entries;
+          holder = holder-kept;
+          open-holders = open-holders-kept;
+          awaits = awaits-kept;
+          no-circle = none;
+          queues = p .queues;
+          criteria = p .criteria;
+          elected = refl;
+          timers = right;
+        }

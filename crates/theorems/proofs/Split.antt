@@ -15,12 +15,12 @@ use Rattle.rules.specs.Words.{isZero, Reason, when, first}
 use Rattle.rules.specs.Tasks.{isStopped, signalled}
 use Rattle.rules.specs.Queues.{noneFits}
 use Rattle.rules.specs.Timers.{later, isDue, rung}
-use Rattle.rules.specs.Regions.{heldBy}
-use Rattle.rules.specs.Tables.{taskOf, regionOf, boundOf, queueOf, changed, withTimers, withElected, electionOf, settled, electOf}
+use Rattle.rules.specs.Regions.{heldBy, heldByOther, entered, exited}
+use Rattle.rules.specs.Tables.{taskOf, regionOf, boundOf, queueOf, changed, withTimers, withRegion, withElected, electionOf, settled, electOf}
 use Rattle.rules.specs.Validity.{valid}
 use Rattle.rules.specs.Answers.{done}
-use Rattle.rules.specs.Refusals.{missing, wrongState, leaves, entriesFull, reasons, refusal}
-use Rattle.rules.specs.Effects.{ringing, ticked, effect}
+use Rattle.rules.specs.Refusals.{missing, wrongState, leaves, inside, entriesFull, closesCircle, stopsHolder, reasons, refusal}
+use Rattle.rules.specs.Effects.{Effect, plain, suspend, handOn, handsOn, ringing, ticked, effect}
 use Rattle.rules.specs.Step.{step}
 use Rattle.rules.proofs.Validity.{parts-of}
 use Rattle.exclusion.specs.Marks.{passesSignal}
@@ -44,8 +44,10 @@ combined tasks rest =
       arrived = tasks .arrived;
       list = tasks .list;
       operator = tasks .operator;
+      awaits = rest .awaits;
       holder = rest .holder;
       entries = rest .entries;
+      opened = rest .opened;
       bound = rest .bound;
       length = rest .length;
       element = rest .element;
@@ -88,7 +90,7 @@ module _ (k t : Table) (v : valid (mixed k t) ≡ true) where
       × (step (mixed k t) (outerCall o) .answer .status ≡ outerStatus (t .tasks) k o)
 
   step-signal : (s : Signal) → Came (signal s)
-  unfolding step refusal reasons missing wrongState leaves effect signalTable signalStatus bad
+  unfolding step refusal reasons missing wrongState leaves inside closesCircle stopsHolder effect signalTable signalStatus bad
   step-signal s = go (bad (t .tasks) s) (isStopped (taskOf k (s .task))) refl refl
     where
       go : (b c : Bool) → bad (t .tasks) s ≡ b → isStopped (taskOf k (s .task)) ≡ c → Came (signal s)
@@ -97,7 +99,7 @@ module _ (k t : Table) (v : valid (mixed k t) ≡ true) where
       go false false h e = (simp (v, h, e), simp (v, h, e))
 
   step-tick : (m : Tick) → Came (tick m)
-  unfolding step refusal reasons missing wrongState leaves effect
+  unfolding step refusal reasons missing wrongState leaves inside closesCircle stopsHolder effect
   step-tick m = (simp v (ticked-mixed k t), simp v)
 
   pub step-outer : (o : Outer) → Came o
@@ -106,7 +108,7 @@ module _ (k t : Table) (v : valid (mixed k t) ≡ true) where
 
 -- a TICK from outside, whatever its numbers say
 pub tick-done : (t : Table) (c : Call) → valid t ≡ true → c .caller ≡ outside → c .operation ≡ TICK → step t c ≡ done (settled (ticked t)) 0 0 0 (electOf (t .elected) (ticked t) .displaced)
-unfolding step refusal reasons missing wrongState leaves effect
+unfolding step refusal reasons missing wrongState leaves inside closesCircle stopsHolder effect
 tick-done t c v who is = simp (v, who, is)
 
 pub tick-accepted : TickAccepted
@@ -119,10 +121,12 @@ unfoldable pub restReasons : Table → Call → List Reason
 restReasons t c =
     when 13 (eqb (c .caller) outside)
     ∷ when 14 (missing (t .tasks) (t .regions) (t .queues) c)
+    ∷ when 16 (inside (t .opened) (t .holder) c)
     ∷ when 17 (eqb (c .operation) SEND && leb (boundOf t (c .a)) (length (queueOf t (c .a))))
     ∷ when 18 (eqb (c .operation) RETRIEVE && noneFits (c .c) (queueOf t (c .a)))
-    ∷ when 22 (eqb (c .operation) ENTER && entriesFull (t .entries) (c .a))
+    ∷ when 22 (eqb (c .operation) ENTER && entriesFull (regionOf t (c .a)) (c .caller))
     ∷ when 23 (eqb (c .operation) EXIT && not (heldBy (c .caller) (regionOf t (c .a))))
+    ∷ when 24 (closesCircle (t .awaits) (t .holder) c)
     ∷ []
 
 unfoldable pub restRefusal : Table → Call → ℕ
@@ -139,7 +143,7 @@ callReply t c =
 
 module _ (k t : Table) (c : Call) (free : passesSignal (c .operation) ≡ true) where
   rest-refusal : valid (mixed k t) ≡ true → c .caller ≡ mixed k t .elected → refusal (mixed k t) c ≡ restRefusal t c
-  unfolding refusal reasons missing wrongState leaves restRefusal restReasons queueOf
+  unfolding refusal reasons missing wrongState leaves inside closesCircle stopsHolder restRefusal restReasons queueOf
   rest-refusal v is =
       let e = eq-eqb (c .caller) (mixed k t .elected) is in
       passes-cases (λ n. refusal (mixed k t) (numbered n c) ≡ restRefusal t (numbered n c))
@@ -159,7 +163,24 @@ module _ (k t : Table) (c : Call) (free : passesSignal (c .operation) ≡ true) 
   rest-only : RestOnly c
   unfolding effect queueOf
   rest-only =
-      passes-cases (λ n. RestOnly (numbered n c)) (refl, refl, refl) (refl, refl, refl) (refl, refl, refl) (refl, refl, refl) (c .operation) free
+      passes-cases (λ n. RestOnly (numbered n c)) (enters (heldByOther (c .caller) (regionOf t (c .a)))) (exits (handsOn (c .a) t)) (refl, refl, refl) (refl, refl, refl)
+      (c .operation) free
+    where
+      -- ENTER and EXIT do one of two things each, and which one the rest says
+      Both : Effect → Effect → Type 0
+      Both e f = (settled (e .table) ≡ mixed k (f .table)) × (e .status ≡ f .status) × (e .given ≡ f .given)
+
+      enters : (b : Bool)
+          → Both (cond b (suspend (mixed k t) c) (plain (withRegion (c .a) (entered (c .caller) (regionOf t (c .a))) (mixed k t))))
+          (cond b (suspend t c) (plain (withRegion (c .a) (entered (c .caller) (regionOf t (c .a))) t)))
+      enters true = (refl, refl, refl)
+      enters false = (refl, refl, refl)
+
+      exits : (b : Bool)
+          → Both (cond b (plain (handOn (c .a) (mixed k t))) (plain (withRegion (c .a) (exited (regionOf t (c .a))) (mixed k t))))
+          (cond b (plain (handOn (c .a) t)) (plain (withRegion (c .a) (exited (regionOf t (c .a))) t)))
+      exits true = (refl, refl, refl)
+      exits false = (refl, refl, refl)
 
   abbrev Called : Type 0
   Called = (step (mixed k t) c .table ≡ mixed k (callTable t c)) × (reply (step (mixed k t) c .answer) ≡ callReply t c)

@@ -1,6 +1,7 @@
 -- A table whose timers change stays valid: ARM, DISARM, and TICK with the signals of the timers that are due.
 use Prim.Native.Nat.{ℕ, _<_, _≤_}
 use mathlib.Core.Path.{_≡_, refl, sym, ap, _∙_, fun-ext}
+use mathlib.Core.Logic.{inr}
 use mathlib.Core.Bool.{Bool, true, false, cond}
 use mathlib.Core.List.{List, [], _∷_, map}
 use lib.ListN.{length, length-map}
@@ -48,6 +49,9 @@ keep-timers t p ticks timers long right =
       regions = p .regions;
       entries = p .entries;
       holder = p .holder;
+      open-holders = p .open-holders;
+      awaits = p .awaits;
+      no-circle = p .no-circle;
       queues = p .queues;
       criteria = p .criteria;
       elected = refl;
@@ -111,9 +115,8 @@ ring-keeps : (t : Table) → Parts t → (r : Timer) → Counting (t .tasks) (t 
 ring-keeps t p r c =
     let i = r .owner in
     let l = c .owner-there in
-    keep-task t p i (signalled (r .event) (taskOf t i)) l
+    keep-task t p i (signalled (r .event) (taskOf t i)) l (t .awaits) (λ j. inr refl) (λ u g. signalled-ready (r .event) (taskOf t i) g) refl (p .no-circle)
     (signalled-fits (r .event) (c .event-there) _ (taskOf t i) (c .awake) (row-right t (p .tasks) i l (below-room t p i l)))
-    (λ e f g. signalled-ready (r .event) (taskOf t i) g)
     (t .timers)
     refl
     (timers-awake t p i (signalled (r .event) (taskOf t i)) l (signalled-stopped (r .event) (taskOf t i) ∙ c .awake))

@@ -7,6 +7,7 @@ use Rattle.rules.specs.declared.Table.{Table}
 use Rattle.rules.specs.declared.Call.{Call}
 use Rattle.rules.specs.Numbers.{nobody, STOP, END}
 use Rattle.rules.specs.Election.{readyAt}
+use Rattle.rules.specs.Tables.{statesOf}
 use Rattle.rules.specs.Step.{step}
 
 abbrev pub displaced : Table → Call → ℕ
@@ -15,7 +16,7 @@ displaced t c = step t c .answer .displaced
 -- a displaced task was elected, is ready, and another is elected now
 pub record PushedAside (t : Table) (c : Call) : Type 0 where
   pub was : t .elected ≡ displaced t c
-  pub ready : readyAt (step t c .table .state) (displaced t c) ≡ true
+  pub ready : readyAt (statesOf (step t c .table)) (displaced t c) ≡ true
   pub another : step t c .table .elected ≢ displaced t c
 
 abbrev pub DisplacedAside : Type 0
@@ -25,7 +26,7 @@ DisplacedAside = (t : Table) (c : Call) → displaced t c ≢ nobody → PushedA
 abbrev pub StaysUndisplaced : Type 0
 StaysUndisplaced = (t : Table) (c : Call) → step t c .table .elected ≡ t .elected → displaced t c ≡ nobody
 
--- nor is anybody by a call behind which its caller isn't ready: a WAIT that waits, END, STOP of oneself
+-- nor is anybody by a call behind which its caller isn't ready: a WAIT that waits, an ENTER that suspends, END, STOP of oneself
 abbrev pub LeavesUndisplaced : Type 0
 LeavesUndisplaced =
     (t : Table) (c : Call) → (step t c .answer .status ≡ 1) ⊎ ((c .operation ≡ END) ⊎ ((c .operation ≡ STOP) × (c .a ≡ c .caller)))
@@ -35,4 +36,4 @@ LeavesUndisplaced =
 abbrev pub Succeeds : Type 0
 Succeeds =
     (t : Table) (c : Call) → step t c .table .elected ≢ t .elected
-    → (t .elected ≡ nobody) ⊎ ((readyAt (step t c .table .state) (t .elected) ≡ false) ⊎ (displaced t c ≢ nobody))
+    → (t .elected ≡ nobody) ⊎ ((readyAt (statesOf (step t c .table)) (t .elected) ≡ false) ⊎ (displaced t c ≢ nobody))

@@ -33,8 +33,8 @@ ValidSame = (t : Table) (c : Call) → valid (step t c .table) ≡ valid t
 
 abbrev pub FreshValid : Type 0
 FreshValid =
-    (tasks regions queues : ℕ) (priorities bounds : List ℕ) → configurationInRange tasks regions queues priorities bounds ≡ true
-    → valid (freshTable tasks regions queues priorities bounds) ≡ true
+    (tasks regions queues : ℕ) (priorities bounds marks : List ℕ) → configurationInRange tasks regions queues priorities bounds marks ≡ true
+    → valid (freshTable tasks regions queues priorities bounds marks) ≡ true
 
 -- "a table of zeros, which is not valid"
 abbrev pub ZerosInvalid : Type 0

@@ -4,5 +4,9 @@ pub mod Listed
 pub mod Happenings
 pub mod Refused
 pub mod Running
+pub mod Urgency
+pub mod Lines
+pub mod Along
+pub mod Former
 pub mod Displaced
 pub mod Tasks

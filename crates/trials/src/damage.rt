@@ -10,14 +10,14 @@ use rules::Timer;
 // The fields that a scene changes, by the places of their names (see `words`).
 pub(crate) const ELECTED: u32 = 3;
 
-pub(crate) const TICKS: u32 = 15;
+pub(crate) const TICKS: u32 = 17;
 
 // A timer's fields stand behind the others.
 fn spoiled_timer(mut timer: Timer, field: u32, n: u32) -> Timer {
     match field {
-        16 => timer.armed = (n % 256) as u8,
-        17 => timer.owner = (n % 256) as u8,
-        18 => timer.event = (n % 256) as u8,
+        18 => timer.armed = (n % 256) as u8,
+        19 => timer.owner = (n % 256) as u8,
+        20 => timer.event = (n % 256) as u8,
         _ => timer.date = n,
     }
     timer
@@ -38,12 +38,14 @@ pub(crate) fn spoiled(mut t: Table, field: u32, entry: u32, n: u32) -> Table {
         6 => t.arrived[at % TASKS] = half,
         7 => t.list[at % TASKS] = half,
         8 => t.operator[at % TASKS] = byte,
-        9 => t.holder[at % REGIONS] = byte,
-        10 => t.entries[at % REGIONS] = byte,
-        11 => t.bound[at % QUEUES] = byte,
-        12 => t.length[at % QUEUES] = byte,
-        13 => t.element[at % STORE] = n,
-        14 => t.criterion[at % STORE] = byte,
+        9 => t.awaits[at % TASKS] = byte,
+        10 => t.holder[at % REGIONS] = byte,
+        11 => t.entries[at % REGIONS] = byte,
+        12 => t.opened[at % REGIONS] = byte,
+        13 => t.bound[at % QUEUES] = byte,
+        14 => t.length[at % QUEUES] = byte,
+        15 => t.element[at % STORE] = n,
+        16 => t.criterion[at % STORE] = byte,
         TICKS => t.ticks = n,
         _ => {
             let timer = t.timers[at % TIMERS];

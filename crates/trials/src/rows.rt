@@ -2,7 +2,7 @@
 use super::words::value_of;
 use bytes::scan::find;
 
-// A line `TABLE CALLER OPERATION A B C PRIORITIES BOUNDS LAST`. What a line does not list is 0.
+// A line `TABLE CALLER OPERATION A B C PRIORITIES BOUNDS LAST MARKS MARK`. What a line does not list is 0.
 pub(crate) struct Row {
     pub(crate) table: u32,
     pub(crate) caller: u32,
@@ -13,6 +13,8 @@ pub(crate) struct Row {
     pub(crate) priorities: u32,
     pub(crate) bounds: u32,
     pub(crate) last: u32,
+    pub(crate) marks: u32,
+    pub(crate) mark: u32,
 }
 
 // The row with n in that place.
@@ -26,7 +28,9 @@ fn with(mut r: Row, place: usize, n: u32) -> Row {
         5 => r.c = n,
         6 => r.priorities = n,
         7 => r.bounds = n,
-        _ => r.last = n,
+        8 => r.last = n,
+        9 => r.marks = n,
+        _ => r.mark = n,
     }
     r
 }
@@ -43,6 +47,8 @@ pub(crate) fn row_of(text: &[u8]) -> Row {
         priorities: 0,
         bounds: 0,
         last: 0,
+        marks: 0,
+        mark: 0,
     };
     let mut place = 0;
     let mut start = 0;

@@ -45,14 +45,19 @@ pub(crate) fn fresh_table<'a>(
     queues: u8,
     priorities: &'a [u8],
     bounds: &'a [u8],
+    marks: &'a [u8],
 ) -> Table {
-    let d = fresh(tasks, regions, queues, priorities, bounds);
+    let d = fresh(tasks, regions, queues, priorities, bounds, marks);
     d.table
 }
 
-// The table of document 01's examples: priorities 5, 5, 2, two regions, one queue of bound 2.
+// The table of document 01's examples: priorities 5, 5, 2, one queue of bound 2, and two regions with these marks.
+fn fresh_with(marks: &[u8]) -> Table {
+    fresh_table(3, 2, 1, &[5, 5, 2], &[2], marks)
+}
+
 pub(crate) fn fresh_one() -> Table {
-    fresh_table(3, 2, 1, &[5, 5, 2], &[2])
+    fresh_with(&[0, 0])
 }
 
 fn signalled() -> Table {
@@ -82,6 +87,7 @@ fn largest() -> Table {
         QUEUES as u8,
         &priorities,
         &[PLACES as u8; QUEUES],
+        &[0; REGIONS],
     )
 }
 
@@ -91,6 +97,24 @@ fn filled() -> Table {
         t = after(t, 0, SEND, 7, 100 + i, 3);
     }
     t
+}
+
+fn shared() -> Table {
+    fresh_with(&[1, 0])
+}
+
+fn lined() -> Table {
+    let t = after(shared(), 0, START, 1, 0, 0);
+    let t = after(t, 0, ENTER, 0, 0, 0);
+    let t = after(t, 0, START, 2, 0, 0);
+    after(t, 2, ENTER, 0, 0, 0)
+}
+
+fn crossed() -> Table {
+    let t = after(fresh_with(&[1, 1]), 0, ENTER, 0, 0, 0);
+    let t = after(t, 0, START, 2, 0, 0);
+    let t = after(t, 2, ENTER, 1, 0, 0);
+    after(t, 2, ENTER, 0, 0, 0)
 }
 
 // The tables by the places of their names. The last is the table that the line before left.
@@ -127,6 +151,12 @@ pub(crate) fn table_of(scene: u32, before: Table) -> Table {
         13 => spoiled(fresh_one(), TICKS, 0, 4294967294),
         // armed: as fresh, and task 0 has armed timer 0 for its event 1, five ticks ahead.
         14 => after(fresh_one(), 0, ARM, 0, 1, 5),
+        // shared: as fresh, but region 0 is open.
+        15 => shared(),
+        // lined: as shared. Task 0 holds region 0, which task 2 waits for, and task 1 is ready. Task 0 has borrowed the urgency of task 2.
+        16 => lined(),
+        // crossed: as fresh, but both regions are open. Task 0 holds region 0, and task 2, which holds region 1, waits for it.
+        17 => crossed(),
         // then
         _ => before,
     }

@@ -44,11 +44,11 @@ fn looked_up(word: &[u8], names: &[u8]) -> u32 {
 fn name_of(word: &[u8]) -> u32 {
     looked_up(
         word,
-        b"0 fresh signalled held full rivals asleep ended busy largest last filled zeros wrong turning armed then \
+        b"0 fresh signalled held full rivals asleep ended busy largest last filled zeros wrong turning armed shared lined crossed then \
         0 START STOP END SIGNAL WAIT CLEAR ENTER EXIT SEND RETRIEVE ARM DISARM TICK \
         256 ARRIVED EMPTY FULL PRIORITY STATE Change Configure List Lengthen Marks \
-        0 tasks regions queues elected priority state arrived list operator holder entries bound length element criterion \
-        ticks flag owner event date \
+        0 tasks regions queues elected priority state arrived list operator awaits holder entries opened bound length \
+        element criterion ticks flag owner event date \
         0 all any \
         0 - \
         255 outside ",

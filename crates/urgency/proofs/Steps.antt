@@ -1,14 +1,14 @@
 -- A step of a way, its end and whom it meets, as the code has them.
-use Prim.Native.Nat.{ℕ, zero, suc, _-_, _≤_}
+use Prim.Native.Nat.{ℕ, zero, suc, _-_, _<_, _≤_}
 use mathlib.Core.Path.{_≡_, refl, sym, _∙_}
 use mathlib.Core.Logic.{_≢_}
-use mathlib.Core.Bool.{Bool, true, false}
+use mathlib.Core.Bool.{Bool, true, false, false≢true}
 use mathlib.Core.List.{List}
 use native.Mathlib.Omega.{arith}
 use lib.ListN.{getD, length, List·getD-eq-default}
 use borrow.Author.Tests.{eqb-true, eq-eqb, ne-eqb}
 use Rattle.rules.specs.Numbers.{taskRoom, regionRoom}
-use Rattle.rules.specs.Words.{isZero}
+use Rattle.rules.specs.Words.{isZero, below}
 use Rattle.rules.specs.Urgency.{nobodyAwaits}
 use Rattle.rules.specs.Circles.{onward, ends, meets, noCircle}
 use Rattle.rules.proofs.Counts.{below-at, below-all}
@@ -80,3 +80,12 @@ no-circle-quiet awaits holder h =
     (λ i l.
     ends-here awaits holder taskRoom i
     (onward-none awaits holder i (eqb-true (getD awaits i 0) 0 (below-at (λ j. isZero (getD awaits j 0)) taskRoom i h l))))
+
+-- ---- the first that fails
+
+pub below-out : (p : ℕ → Bool) (n i : ℕ) → i < n → p i ≡ false → false ≡ below n p
+below-out p n i l f = go (below n p) refl
+  where
+    go : (b : Bool) → below n p ≡ b → false ≡ below n p
+    go true e = absurd (false≢true (sym f ∙ below-at p n i e l))
+    go false e = sym e

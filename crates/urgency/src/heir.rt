@@ -1,15 +1,18 @@
 // The heir of a region: of the tasks that wait for it the most urgent, of equals the lowest number.
 use crate::asking::task_urgency;
 use crate::stored::names_it;
+use crate::waiting::nobody_awaits;
 use election::best_ready;
+use rules::NOBODY;
 use rules::READY;
 use rules::REGIONS;
 use rules::STOPPED;
 use rules::TASKS;
 ghost use mathlib.Core.Path.{_≡_};
 ghost use mathlib.Core.Bool.{cond};
+ghost use lib.Dec.{eqb};
 ghost use lib.ListN.{length};
-ghost use Rattle.rules.specs.Numbers.{taskRoom, regionRoom};
+ghost use Rattle.rules.specs.Numbers.{taskRoom, regionRoom, nobody};
 ghost use Rattle.rules.specs.Tasks.{ready, stopped};
 ghost use Rattle.rules.specs.Urgency.{awaiting, line, heir};
 ghost use Rattle.urgency.specs.Lines.{lineUrgencies};
@@ -57,7 +60,7 @@ fn line_urgencies<'a>(
     out
 }
 
-pub fn heir_of<'a>(
+fn heir_of<'a>(
     r: usize,
     priority: &'a [u8; TASKS],
     awaits: &'a [u8; TASKS],
@@ -73,4 +76,28 @@ pub fn heir_of<'a>(
     let waiting = line_of(r, awaits);
     let urgency = line_urgencies(r, priority, awaits, opened, holder);
     best_ready(&waiting, &urgency)
+}
+
+// Who gets the region at an EXIT of one that is counted so often: nobody unless it is the matching one and a task waits.
+pub fn heir_at_exit<'a>(
+    entries: u8,
+    r: usize,
+    priority: &'a [u8; TASKS],
+    awaits: &'a [u8; TASKS],
+    opened: &'a [u8; REGIONS],
+    holder: &'a [u8; REGIONS],
+) -> u8
+    requires { ⌜ length (now priority) ≡ taskRoom ⌝ }
+    requires { ⌜ length (now awaits) ≡ taskRoom ⌝ }
+    requires { ⌜ length (now opened) ≡ regionRoom ⌝ }
+    requires { ⌜ length (now holder) ≡ regionRoom ⌝ }
+    ensures { λ x. ⌜ x ≡ cond (eqb entries 1) (heir (now (priority .entry)) (now (awaits .entry)) (now (opened .entry)) (now (holder .entry)) r) nobody ⌝ }
+{
+    if entries != 1 {
+        return NOBODY;
+    }
+    if nobody_awaits(awaits) {
+        return NOBODY;
+    }
+    heir_of(r, priority, awaits, opened, holder)
 }

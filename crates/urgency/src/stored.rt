@@ -1,13 +1,11 @@
 // Stored numbers: whom one names, and what the marks and holders of a region say.
+use rules::OPEN;
 ghost use mathlib.Core.Path.{_≡_};
 ghost use mathlib.Core.Bool.{_&&_};
 ghost use Prim.Native.Nat.{_-_, _<_};
 ghost use Rattle.rules.specs.Numbers.{priorityEnd};
 ghost use Rattle.rules.specs.Words.{names};
 ghost use Rattle.rules.specs.Urgency.{isOpen};
-
-// The mark of a region that can be waited for.
-const OPEN: u8 = 1;
 
 // Whom a stored number names; it must name one.
 pub(crate) fn index_of(entry: u8) -> u8

@@ -18,7 +18,8 @@ pub fn nobody_awaits(awaits: &[u8; TASKS]) -> bool
     ok
 }
 
-fn state_with(awaited: u8, state: u8) -> u8
+// A task's state, from what is stored of it: 3 where it waits for a region.
+pub fn state_with(awaited: u8, state: u8) -> u8
     ensures { λ r. ⌜ r ≡ stateWith awaited state ⌝ }
 {
     if awaited == 0 { state } else { SUSPENDED }

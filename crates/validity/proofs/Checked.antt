@@ -10,11 +10,13 @@ use Rattle.rules.specs.declared.Table.{Table}
 use Rattle.rules.specs.Numbers.{taskRoom, regionRoom, queueRoom, storeSize, timerRoom}
 use Rattle.rules.specs.Words.{all}
 use Rattle.rules.specs.Regions.{held}
+use Rattle.rules.specs.Circles.{noCircle}
+use Rattle.rules.specs.Tables.{statesOf, urgenciesOf, closedOf}
 use Rattle.rules.specs.Validity.{shaped, countsInRange, criteriaInRange, timersRight, valid}
 use Rattle.rules.proofs.Bools.{and-left, and-right, both, shown}
 use Rattle.rules.specs.Election.{electedBy}
 use Rattle.rules.proofs.Election.{election-by}
-use Rattle.rules.specs.Checks.{tasksRight, regionsRight, entriesEverywhere, holderRight, queuesRight}
+use Rattle.rules.specs.Checks.{tasksRight, regionsRight, entriesEverywhere, holderRight, openHoldersFit, awaitsFit, queuesRight}
 use Rattle.rules.proofs.Validity.{parts-of, valid-is}
 use Rattle.regions.specs.Bits.{orAll}
 use Rattle.regions.proofs.Bits.{bits-right, held-right}
@@ -26,8 +28,10 @@ pub record Lengths (t : Table) : Type 0 where
   pub arrived-long : length (t .arrived) ≡ taskRoom
   pub list-long : length (t .list) ≡ taskRoom
   pub operator-long : length (t .operator) ≡ taskRoom
+  pub awaits-long : length (t .awaits) ≡ taskRoom
   pub holder-long : length (t .holder) ≡ regionRoom
   pub entries-long : length (t .entries) ≡ regionRoom
+  pub opened-long : length (t .opened) ≡ regionRoom
   pub bound-long : length (t .bound) ≡ queueRoom
   pub length-long : length (t .length) ≡ queueRoom
   pub element-long : length (t .element) ≡ storeSize
@@ -40,16 +44,21 @@ length-mapped X Y f l n e = sym (length-map l f) ∙ e
 
 -- ---- what each part of the check finds in the table t
 
--- v is the bits of all holders' entries
+-- v is the bits of the closed regions' entries
 pub record Regions (t : Table) (v : ℕ) (fit counted : Bool) : Type 0 where
-  pub bits : v ≡ orAll 0 (t .holder)
-  pub fit-is : fit ≡ regionsRight (t .regions) v (t .holder)
+  pub bits : v ≡ orAll 0 (closedOf t)
+  pub fit-is : fit ≡ regionsRight (t .regions) v (t .opened) (t .holder)
   pub counted-is : counted ≡ entriesEverywhere (t .holder) (t .entries)
 
--- who is elected where v is the holder's entry
+-- who waits, and who holds the open regions
+pub record Waiting (t : Table) (waiting hold : Bool) : Type 0 where
+  pub waiting-is : waiting ≡ (awaitsFit (t .tasks) (t .state) (t .awaits) (t .opened) (t .holder) && noCircle (t .awaits) (t .holder))
+  pub hold-is : hold ≡ openHoldersFit (t .tasks) (t .state) (t .opened) (t .holder)
+
+-- who is elected where v is the closed regions' holder's entry
 pub record Elected (t : Table) (v who : ℕ) (ready : Bool) : Type 0 where
-  pub who-is : who ≡ electedBy v (t .state) (t .priority)
-  pub ready-is : ready ≡ holderRight (t .tasks) (t .state) v
+  pub who-is : who ≡ electedBy v (statesOf t) (urgenciesOf t)
+  pub ready-is : ready ≡ holderRight (t .tasks) (statesOf t) v
 
 pub record Loops (t : Table) (counts stores clock : Bool) : Type 0 where
   pub counts-is : counts ≡ countsInRange (t .tasks) (t .regions) (t .queues)
@@ -79,6 +88,8 @@ module _ (t : Table) (long : Lengths t) where
         long .element-long,
         long .criterion-long,
         long .timers-long,
+        long .awaits-long,
+        long .opened-long,
       )
 
   refuted : (b : Bool) → (valid t ≡ true → b ≡ true) → not b ≡ true → false ≡ valid t
@@ -90,71 +101,92 @@ module _ (t : Table) (long : Lengths t) where
 
   module _ {v : ℕ} {fit counted : Bool} (r : Regions t v fit counted) where
     -- the bits are the holder's entry in every table that is valid
-    one : valid t ≡ true → v ≡ held (t .holder)
-    one k = r .bits ∙ held-right (t .regions) (t .holder) (long .holder-long) (parts-of t k .regions)
+    one : valid t ≡ true → v ≡ held (closedOf t)
+    one k = r .bits ∙ held-right (t .regions) (t .opened) (t .holder) (parts-of t k .regions)
 
     pub regions-wrong : not (fit && counted) ≡ true → false ≡ valid t
     regions-wrong =
         refuted (fit && counted)
         (λ k.
-        both (r .fit-is ∙ ap (λ x. regionsRight (t .regions) x (t .holder)) (one k) ∙ parts-of t k .regions)
+        both (r .fit-is ∙ ap (λ x. regionsRight (t .regions) x (t .opened) (t .holder)) (one k) ∙ parts-of t k .regions)
         (r .counted-is ∙ parts-of t k .entries))
 
-    module _ {who : ℕ} {ready : Bool} (e : Elected t v who ready) where
-      pub elected-wrong : not (ready && eqb (t .elected) who) ≡ true → false ≡ valid t
-      elected-wrong =
-          refuted (ready && eqb (t .elected) who)
-          (λ k.
-          both (e .ready-is ∙ ap (holderRight (t .tasks) (t .state)) (one k) ∙ parts-of t k .holder)
-          (rw (e .who-is, one k, election-by) (eq-eqb _ _ (parts-of t k .elected))))
+    module _ {waiting hold : Bool} (w : Waiting t waiting hold) where
+      pub waiting-wrong : not (waiting && hold) ≡ true → false ≡ valid t
+      waiting-wrong =
+          refuted (waiting && hold)
+          (λ k. both (w .waiting-is ∙ both (parts-of t k .awaits) (parts-of t k .no-circle)) (w .hold-is ∙ parts-of t k .open-holders))
 
-      module _ {counts stores clock : Bool} (l : Loops t counts stores clock) where
-        pub loops-wrong : not (counts && (stores && clock)) ≡ true → false ≡ valid t
-        loops-wrong =
-            refuted (counts && (stores && clock))
+      module _ {who : ℕ} {ready : Bool} (e : Elected t v who ready) where
+        pub elected-wrong : not (ready && eqb (t .elected) who) ≡ true → false ≡ valid t
+        elected-wrong =
+            refuted (ready && eqb (t .elected) who)
             (λ k.
-            both (l .counts-is ∙ parts-of t k .counts) (both (l .stores-is ∙ parts-of t k .queues) (l .clock-is ∙ parts-of t k .timers)))
+            both (e .ready-is ∙ ap (holderRight (t .tasks) (statesOf t)) (one k) ∙ parts-of t k .holder)
+            (rw (e .who-is, one k, election-by) (eq-eqb _ _ (parts-of t k .elected))))
 
-        module _ {columns criteria : Bool} (c : Columns t columns criteria) where
-          -- where v is the holder's entry
-          by-holder : v ≡ held (t .holder)
-              → (counts && (columns && (fit && (counted && (ready && (stores && (criteria && (eqb (t .elected) who && clock)))))))) ≡ valid t
-          unfolding all
-          by-holder h =
-              rw (
-                l .counts-is,
-                c .columns-is,
-                r .fit-is,
-                r .counted-is,
-                e .ready-is,
-                l .stores-is,
-                c .criteria-is,
-                l .clock-is,
-                e .who-is,
-                h,
-                election-by,
-                valid-is t shape,
-              )
-              (simp and-true)
+        module _ {counts stores clock : Bool} (l : Loops t counts stores clock) where
+          pub loops-wrong : not (counts && (stores && clock)) ≡ true → false ≡ valid t
+          loops-wrong =
+              refuted (counts && (stores && clock))
+              (λ k.
+              both (l .counts-is ∙ parts-of t k .counts) (both (l .stores-is ∙ parts-of t k .queues) (l .clock-is ∙ parts-of t k .timers)))
 
-          pub check-is : not (fit && counted) ≡ false → not (ready && eqb (t .elected) who) ≡ false → not (counts && (stores && clock)) ≡ false
-              → (columns && criteria) ≡ valid t
-          check-is i j k =
-              let regions = not-false (fit && counted) i in
-              let elected = not-false (ready && eqb (t .elected) who) j in
-              let loops = not-false (counts && (stores && clock)) k in
-              let after-counts = and-right counts (stores && clock) loops in
-              let right : regionsRight (t .regions) (orAll 0 (t .holder)) (t .holder) ≡ true =
-              ap (λ x. regionsRight (t .regions) x (t .holder)) (sym (r .bits)) ∙ sym (r .fit-is) ∙ and-left fit counted regions in
-              let whole = by-holder (r .bits ∙ bits-right (t .regions) (t .holder) (long .holder-long) right) in
-              simp (
-                and-left counts (stores && clock) loops,
-                and-left fit counted regions,
-                and-right fit counted regions,
-                and-left ready _ elected,
-                and-right ready _ elected,
-                and-left stores clock after-counts,
-                and-right stores clock after-counts,
-                and-true,
-              )
-              at whole
+          module _ {columns criteria : Bool} (c : Columns t columns criteria) where
+            awaited : Bool
+            awaited = awaitsFit (t .tasks) (t .state) (t .awaits) (t .opened) (t .holder)
+
+            circles : Bool
+            circles = noCircle (t .awaits) (t .holder)
+
+            -- where v is the holder's entry
+            by-holder : v ≡ held (closedOf t)
+                → (counts && (columns && (fit && (counted && (ready && (hold && (awaited && (circles && (stores && (criteria && (eqb (t .elected) who && clock)))))))))))
+                ≡ valid t
+            unfolding all awaited circles
+            by-holder h =
+                rw (
+                  l .counts-is,
+                  c .columns-is,
+                  r .fit-is,
+                  r .counted-is,
+                  e .ready-is,
+                  w .hold-is,
+                  l .stores-is,
+                  c .criteria-is,
+                  l .clock-is,
+                  e .who-is,
+                  h,
+                  election-by,
+                  valid-is t shape,
+                )
+                (simp and-true)
+
+            pub check-is : not (fit && counted) ≡ false → not (waiting && hold) ≡ false → not (ready && eqb (t .elected) who) ≡ false
+                → not (counts && (stores && clock)) ≡ false
+                → (columns && criteria) ≡ valid t
+            unfolding awaited circles
+            check-is i m j k =
+                let regions = not-false (fit && counted) i in
+                let waits = not-false (waiting && hold) m in
+                let both-wait = sym (w .waiting-is) ∙ and-left waiting hold waits in
+                let elected = not-false (ready && eqb (t .elected) who) j in
+                let loops = not-false (counts && (stores && clock)) k in
+                let after-counts = and-right counts (stores && clock) loops in
+                let right : regionsRight (t .regions) (orAll 0 (closedOf t)) (t .opened) (t .holder) ≡ true =
+                ap (λ x. regionsRight (t .regions) x (t .opened) (t .holder)) (sym (r .bits)) ∙ sym (r .fit-is) ∙ and-left fit counted regions in
+                let whole = by-holder (r .bits ∙ bits-right (t .regions) (t .opened) (t .holder) right) in
+                simp (
+                  and-left counts (stores && clock) loops,
+                  and-left fit counted regions,
+                  and-right fit counted regions,
+                  and-right waiting hold waits,
+                  and-left awaited circles both-wait,
+                  and-right awaited circles both-wait,
+                  and-left ready _ elected,
+                  and-right ready _ elected,
+                  and-left stores clock after-counts,
+                  and-right stores clock after-counts,
+                  and-true,
+                )
+                at whole

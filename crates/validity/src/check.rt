@@ -1,10 +1,10 @@
 // The validity check: every rule of the list, by subject, over a front and a lent store or a whole table.
-use election::elected_by;
 use queues::criteria_right;
 use queues::queues_right;
+use regions::closed_bits;
 use regions::entries_right;
-use regions::holder_bits;
 use regions::holder_right;
+use regions::open_holders_right;
 use regions::regions_right;
 use rules::STORE;
 use rules::Table;
@@ -13,27 +13,35 @@ use tables::counts_right;
 use tables::front_of;
 use tasks::tasks_right;
 use timers::timers_right;
+use urgency::elected_now;
+use urgency::waiting_right;
 ghost use mathlib.Core.Path.{_≡_};
 ghost use lib.ListN.{length};
 ghost use Rattle.rules.specs.Numbers.{storeSize};
 ghost use Rattle.rules.specs.Validity.{valid};
 ghost use Rattle.tables.specs.Fronts.{whole};
 
-// The bits of the regions' entries are gathered once, and serve the regions' part and the election. There is a way out before each call and
-// each loop, so that the numbers of a part in packed instructions are done with, and need not be put aside.
+// The bits of the closed regions' entries are gathered once, and serve the regions' part and the election. There is a way out before each
+// call and each loop, so that the numbers of a part in packed instructions are done with, and need not be put aside; and a table with a
+// circle is out before its urgencies are asked for.
 pub fn front_valid<'a>(f: Front, element: &'a [u32; STORE], criterion: &'a [u8; STORE]) -> bool
     requires { ⌜ length (now element) ≡ storeSize ⌝ }
     requires { ⌜ length (now criterion) ≡ storeSize ⌝ }
     ensures { λ r. ⌜ r ≡ valid (whole f (now (element .entry)) (now (criterion .entry))) ⌝ }
 {
-    let v = holder_bits(&f.holder);
-    let held = regions_right(f.regions, v, &f.holder);
+    let v = closed_bits(&f.opened, &f.holder);
+    let held = regions_right(f.regions, v, &f.opened, &f.holder);
     let counted = entries_right(&f.holder, &f.entries);
     if !(held & counted) {
         return false;
     }
-    let who = elected_by(v, &f.state, &f.priority);
-    let ready = holder_right(f.tasks, &f.state, v);
+    let waiting = waiting_right(f.tasks, &f.state, &f.awaits, &f.opened, &f.holder);
+    let hold = open_holders_right(f.tasks, &f.state, &f.opened, &f.holder);
+    if !(waiting & hold) {
+        return false;
+    }
+    let who = elected_now(v, &f.state, &f.priority, &f.awaits, &f.opened, &f.holder);
+    let ready = holder_right(f.tasks, &f.state, &f.awaits, v);
     if !(ready & (f.elected == who)) {
         return false;
     }

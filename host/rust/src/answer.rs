@@ -6,7 +6,7 @@ use crate::numbers::Task;
 pub enum Status {
     /// 0: accepted.
     Done,
-    /// 1: accepted, and the caller waits.
+    /// 1: accepted, and the caller waits: for events after a WAIT, for a region after an ENTER.
     Waits,
     /// 10: a wrong size, or not a valid table.
     NotATable,
@@ -20,7 +20,7 @@ pub enum Status {
     Missing,
     /// 15: START of a task not stopped, STOP or SIGNAL of a stopped one, another task's timer.
     WrongState,
-    /// 16: WAIT, END or STOP of oneself while a region is occupied.
+    /// 16: WAIT, END, STOP of oneself, or an ENTER that would wait, while a closed region is occupied; WAIT by a task that holds an open one.
     InRegion,
     /// 17: SEND to a queue at its bound.
     QueueAtBound,
@@ -34,6 +34,10 @@ pub enum Status {
     EnteredTooOften,
     /// 23: EXIT of a region that the caller doesn't hold.
     NotHeld,
+    /// 24: ENTER of a region whose holder waits for the caller, itself or through others.
+    ClosesCircle,
+    /// 25: STOP or END of a task that holds an open region.
+    HoldsOpen,
     /// Any other number. The library gives none; so reading an answer has no case in which to fail.
     Other(u8),
 }
@@ -56,6 +60,8 @@ impl Status {
             20 => Status::BadConfiguration,
             22 => Status::EnteredTooOften,
             23 => Status::NotHeld,
+            24 => Status::ClosesCircle,
+            25 => Status::HoldsOpen,
             other => Status::Other(other),
         }
     }

@@ -1,7 +1,7 @@
 //! A block that always holds a valid table.
 use crate::answer::{Answer, Status};
 use crate::calls::{Operation, Outside, Query};
-use crate::numbers::Task;
+use crate::numbers::{Mark, Task};
 use crate::{raw, SIZE};
 
 /// The executive's table in its packed block. There is no way to one that isn't valid: a fresh table is, and every call keeps it so.
@@ -11,17 +11,22 @@ pub struct Block {
 }
 
 const OUTSIDE: u8 = 255;
+const MOST_REGIONS: usize = 16;
 
 /// A count that a list has; one too long for a byte is out of range in any case, as 255 is.
-fn count(list: &[u8]) -> u8 {
+fn count<T>(list: &[T]) -> u8 {
     u8::try_from(list.len()).unwrap_or(u8::MAX)
 }
 
 impl Block {
-    /// The fresh table: a task for each priority, a queue for each bound. [`Status::BadConfiguration`] where it is out of range.
-    pub fn fresh(regions: u8, priorities: &[u8], bounds: &[u8]) -> Result<Block, Status> {
+    /// The fresh table: a task for each priority, a queue for each bound, a region for each mark. [`Status::BadConfiguration`] where it is
+    /// out of range.
+    pub fn fresh(priorities: &[u8], bounds: &[u8], marks: &[Mark]) -> Result<Block, Status> {
         let mut bytes = [0; SIZE];
-        let answer = raw::fresh(&mut bytes, count(priorities), regions, count(bounds), priorities, bounds);
+        // Marks past the most regions are left out: their count is out of range in any case.
+        let mut numbers = [0; MOST_REGIONS];
+        numbers.iter_mut().zip(marks).for_each(|(number, &mark)| *number = mark as u8);
+        let answer = raw::fresh(&mut bytes, count(priorities), count(marks), count(bounds), priorities, bounds, &numbers);
         answer.accepted().map(|_| Block { bytes })
     }
 

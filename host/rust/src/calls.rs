@@ -35,12 +35,12 @@ pub enum Operation {
         /// Which events.
         list: EventList,
     },
-    /// The caller becomes a region's holder, and the region counts one entry more.
+    /// The caller becomes a region's holder, and the region counts one entry more. An open region that another task holds is waited for.
     Enter {
         /// The region.
         region: Region,
     },
-    /// A region that the caller holds counts one entry less; it is free when none is left.
+    /// A region that the caller holds counts one entry less; when none is left it is free, or goes to the most urgent task that waits for it.
     Exit {
         /// The region.
         region: Region,
@@ -127,7 +127,7 @@ pub enum Query {
         /// The task.
         task: Task,
     },
-    /// 0 stopped, 1 ready, 2 waiting.
+    /// 0 stopped, 1 ready, 2 waiting for events, 3 waiting for a region.
     State {
         /// The task.
         task: Task,

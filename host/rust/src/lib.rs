@@ -4,9 +4,9 @@
 //! functions of [`raw`] take any bytes and any numbers, as C does, and are as safe: the library asks nothing of its caller.
 //!
 //! ```
-//! use tankwesho::{Block, Operation, Outside, Event, Status, Task};
+//! use tankwesho::{Block, Event, Mark, Operation, Outside, Status, Task};
 //! let [zero, one, two] = [0, 1, 2].map(|n| Task::new(n).unwrap());
-//! let mut block = Block::fresh(2, &[5, 5, 2], &[2]).unwrap();
+//! let mut block = Block::fresh(&[5, 5, 2], &[2], &[Mark::Closed; 2]).unwrap();
 //! let answer = block.call(zero, Operation::Start { task: two });
 //! assert_eq!((answer.status, answer.elected, answer.displaced), (Status::Done, Some(two), Some(zero)));
 //! let answer = block.outside(Outside::Signal { event: Event::new(0).unwrap(), task: one });
@@ -28,7 +28,7 @@
 //! A number isn't a task, and 255 is none that could be made one:
 //!
 //! ```compile_fail,E0308
-//! let mut block = tankwesho::Block::fresh(0, &[1], &[]).unwrap();
+//! let mut block = tankwesho::Block::fresh(&[1], &[], &[]).unwrap();
 //! let _ = block.call(255, tankwesho::Operation::End);
 //! ```
 //!
@@ -45,7 +45,7 @@
 //! Two calls at a time on one block:
 //!
 //! ```compile_fail,E0499
-//! let mut block = tankwesho::Block::fresh(0, &[1], &[]).unwrap();
+//! let mut block = tankwesho::Block::fresh(&[1], &[], &[]).unwrap();
 //! let (one, other) = (&mut block, &mut block);
 //! let _ = one.outside(tankwesho::Outside::Tick);
 //! let _ = other.outside(tankwesho::Outside::Tick);
@@ -62,7 +62,7 @@ pub mod raw;
 pub use answer::{Answer, Status};
 pub use block::Block;
 pub use calls::{Operation, Outside, Query, Wanted};
-pub use numbers::{Criterion, Delay, Event, EventList, Operator, Queue, Region, Task, Timer};
+pub use numbers::{Criterion, Delay, Event, EventList, Mark, Operator, Queue, Region, Task, Timer};
 
 /// The size of a block, in bytes.
-pub const SIZE: usize = 3192;
+pub const SIZE: usize = 3272;

@@ -80,6 +80,15 @@ impl From<EventList> for u32 {
     }
 }
 
+/// What a region's holder keeps from others.
+#[derive(Clone, Copy, Debug, PartialEq, Eq, Hash)]
+pub enum Mark {
+    /// Everything: whoever holds it is elected.
+    Closed = 0,
+    /// The region alone. A task that enters it while another holds it waits for it, and lends that one its urgency.
+    Open = 1,
+}
+
 /// How many of a list's events make its condition.
 #[derive(Clone, Copy, Debug, PartialEq, Eq, Hash)]
 pub enum Operator {

@@ -14,6 +14,8 @@ mod foreign {
             priorities_length: usize,
             bounds: *const u8,
             bounds_length: usize,
+            marks: *const u8,
+            marks_length: usize,
         ) -> u64;
         pub fn tankwesho_call(block: *mut u8, block_length: usize, caller: u8, operation: u8, a: u32, b: u32, c: u32) -> u64;
         pub fn tankwesho_query(block: *const u8, block_length: usize, query: u8, caller: u8, a: u32, b: u32) -> u64;
@@ -21,7 +23,7 @@ mod foreign {
 }
 
 /// Makes the table of a configuration in the block.
-pub fn fresh(block: &mut [u8], tasks: u8, regions: u8, queues: u8, priorities: &[u8], bounds: &[u8]) -> Answer {
+pub fn fresh(block: &mut [u8], tasks: u8, regions: u8, queues: u8, priorities: &[u8], bounds: &[u8], marks: &[u8]) -> Answer {
     // SAFETY: each pointer comes with the length of its slice; the block is lent by `&mut`, so that the lists can't overlap it.
     Answer::of(unsafe {
         foreign::tankwesho_fresh(
@@ -34,6 +36,8 @@ pub fn fresh(block: &mut [u8], tasks: u8, regions: u8, queues: u8, priorities: &
             priorities.len(),
             bounds.as_ptr(),
             bounds.len(),
+            marks.as_ptr(),
+            marks.len(),
         )
     })
 }

@@ -1,6 +1,7 @@
 //! Document 01's examples through the typed calls; the answers are those that host/firmware.c expects from C.
 use tankwesho::{
-    Answer, Block, Criterion, Delay, Event, EventList, Operation, Operator, Outside, Query, Queue, Region, Status, Task, Timer, Wanted,
+    Answer, Block, Criterion, Delay, Event, EventList, Mark, Operation, Operator, Outside, Query, Queue, Region, Status, Task, Timer,
+    Wanted,
 };
 
 fn task(number: u8) -> Task {
@@ -25,7 +26,7 @@ const NO_TASK: Option<u8> = None;
 
 /// "Each starts fresh: priorities 5, 5, 2, two regions, one queue of bound 2."
 fn example() -> Block {
-    Block::fresh(2, &[5, 5, 2], &[2]).unwrap()
+    Block::fresh(&[5, 5, 2], &[2], &[Mark::Closed; 2]).unwrap()
 }
 
 fn queue() -> Queue {
@@ -183,14 +184,45 @@ fn refusals_change_nothing() {
 
 #[test]
 fn configurations() {
-    assert_eq!(Block::fresh(2, &[], &[2]), Err(Status::BadConfiguration));
-    assert_eq!(Block::fresh(2, &[5; 65], &[2]), Err(Status::BadConfiguration));
-    assert_eq!(Block::fresh(17, &[5], &[2]), Err(Status::BadConfiguration));
-    assert_eq!(Block::fresh(2, &[5], &[0]), Err(Status::BadConfiguration));
-    assert_eq!(Block::fresh(2, &[5], &[1; 9]), Err(Status::BadConfiguration));
+    let two = [Mark::Closed, Mark::Open];
+    assert_eq!(Block::fresh(&[], &[2], &two), Err(Status::BadConfiguration));
+    assert_eq!(Block::fresh(&[5; 65], &[2], &two), Err(Status::BadConfiguration));
+    assert_eq!(Block::fresh(&[5], &[2], &[Mark::Open; 17]), Err(Status::BadConfiguration));
+    assert_eq!(Block::fresh(&[5], &[0], &two), Err(Status::BadConfiguration));
+    assert_eq!(Block::fresh(&[5], &[1; 9], &two), Err(Status::BadConfiguration));
     // 256 and 257 entries are not 0 and 1 of them.
-    assert_eq!(Block::fresh(2, &[5; 257], &[2]), Err(Status::BadConfiguration));
-    assert_eq!(Block::fresh(2, &[5], &[1; 256]), Err(Status::BadConfiguration));
-    assert!(Block::fresh(16, &[255; 64], &[64; 8]).is_ok());
-    assert!(Block::fresh(0, &[0], &[]).is_ok());
+    assert_eq!(Block::fresh(&[5; 257], &[2], &two), Err(Status::BadConfiguration));
+    assert_eq!(Block::fresh(&[5], &[1; 256], &two), Err(Status::BadConfiguration));
+    assert_eq!(Block::fresh(&[5], &[2], &[Mark::Open; 256]), Err(Status::BadConfiguration));
+    assert!(Block::fresh(&[255; 64], &[64; 8], &[Mark::Open; 16]).is_ok());
+    assert!(Block::fresh(&[0], &[], &[]).is_ok());
+}
+
+/// T-09: the holder of an open region is as urgent as whoever waits for it; the region is handed on; 24 in the place of a deadlock.
+#[test]
+fn lines() {
+    let mut block = Block::fresh(&[9, 5, 1], &[], &[Mark::Open, Mark::Open, Mark::Closed]).unwrap();
+    let enter = |number| Operation::Enter { region: Region::new(number).unwrap() };
+    let exit = |number| Operation::Exit { region: Region::new(number).unwrap() };
+    let start = |number| Operation::Start { task: task(number) };
+    assert_eq!(block.call(task(0), enter(0)), answer(Status::Done, Some(0)));
+    let wait = Operation::Wait { list: event(0).into(), operator: Operator::All };
+    assert_eq!(block.call(task(0), wait), answer(Status::InRegion, Some(0)));
+    assert_eq!(block.call(task(0), Operation::End), answer(Status::HoldsOpen, Some(0)));
+    assert_eq!(block.call(task(0), start(2)), pushes(2, 0));
+    assert_eq!(block.call(task(2), enter(1)), answer(Status::Done, Some(2)));
+    assert_eq!(block.call(task(2), Operation::Stop { task: task(0) }), answer(Status::HoldsOpen, Some(2)));
+    // Suspended, and not displaced; the task of 5 doesn't come before the one that runs with 1.
+    assert_eq!(block.call(task(2), enter(0)), answer(Status::Waits, Some(0)));
+    assert_eq!(block.query(Query::State { task: task(2) }), Answer { value: 3, ..answer(Status::Done, Some(0)) });
+    assert_eq!(block.query(Query::Priority { task: task(0) }), Answer { value: 9, ..answer(Status::Done, Some(0)) });
+    assert_eq!(block.call(task(0), start(1)), answer(Status::Done, Some(0)));
+    assert_eq!(block.call(task(0), start(2)), answer(Status::WrongState, Some(0)));
+    let before = block.clone();
+    assert_eq!(block.call(task(0), enter(1)), answer(Status::ClosesCircle, Some(0)));
+    assert_eq!(block, before);
+    assert_eq!(block.outside(Outside::Signal { event: event(3), task: task(2) }), answer(Status::Done, Some(0)));
+    assert_eq!(block.call(task(0), exit(0)), pushes(2, 0));
+    assert_eq!(block.call(task(2), exit(0)), answer(Status::Done, Some(2)));
+    assert_eq!(block.call(task(2), exit(0)), answer(Status::NotHeld, Some(2)));
 }

@@ -1,4 +1,5 @@
-//! Times the proved executive and the plain one on the measured logs, of 32 tasks and of 64, turn by turn in one process.
+//! Times the proved executive and the plain one on the measured logs, turn by turn in one process: of 32 tasks and of 64 with closed regions,
+//! and of both with half of the tasks in chains of open regions.
 //!
 //!     speed BENCH PLAIN_BENCH LOG [REPEATS]
 //!
@@ -11,7 +12,7 @@ use std::process::{Command, ExitCode, Stdio};
 
 use plain::answer::{Answer, Call};
 use plain::configuration::Configuration;
-use plain::logs::{measured, written, MEASURED, MEASURED_64, MEASURED_SEED};
+use plain::logs::{written, Measured, ALL_MEASURED, MEASURED_SEED};
 use plain::table::Table;
 
 const CALLS: usize = 1_000_000;
@@ -300,20 +301,21 @@ fn whole_benches(proved: &str, plain: &str, log: &str, repeats: usize) -> Result
 }
 
 /// One measured log by every side, and by both benches.
-fn measure_one(configuration: &Configuration, benches: [&str; 2], log: &str, repeats: usize) -> Result<(), String> {
-    let (calls, mix, _) = measured(configuration, MEASURED_SEED, CALLS);
+fn measure_one((name, configuration): &(&str, Configuration), benches: [&str; 2], log: &str, repeats: usize) -> Result<(), String> {
+    let made = Measured::new(configuration, MEASURED_SEED, CALLS);
     print!(
-        "{CALLS} calls over {} tasks, seed {MEASURED_SEED}; operations by status\n{mix}",
-        configuration.tasks
+        "{CALLS} calls, {name}, seed {MEASURED_SEED}; {}; operations by status\n{}",
+        made.lines(),
+        made.mix
     );
-    let amiss = mix.amiss();
+    let amiss = made.amiss(configuration);
     if !amiss.is_empty() {
         return Err(amiss.join("\n"));
     }
-    fs::write(log, written(configuration, &calls)).map_err(|error| format!("{log}: {error}"))?;
+    fs::write(log, written(configuration, &made.calls)).map_err(|error| format!("{log}: {error}"))?;
     println!("\nnanoseconds a call over {repeats} repeats, then the ratio to the plain side");
     println!("{:36}{:>10}{:>10}{:>10}{:>10}", "", "least", "median", "least", "median");
-    let times = in_process(configuration, &calls, repeats)?;
+    let times = in_process(configuration, &made.calls, repeats)?;
     let [proved, plain] = benches;
     whole_benches(proved, plain, log, repeats)?;
     if let (Some(least), Some(median)) = (Proved::of(&times, Times::least), Proved::of(&times, Times::median)) {
@@ -330,9 +332,13 @@ fn measure(words: &[String]) -> Result<(), String> {
         .first()
         .map_or(Ok(11), |word| word.parse())
         .map_err(|_| "REPEATS is a number")?;
-    measure_one(&MEASURED, [proved, plain], log, repeats)?;
-    println!();
-    measure_one(&MEASURED_64, [proved, plain], log, repeats)
+    for (number, named) in ALL_MEASURED.iter().enumerate() {
+        if number > 0 {
+            println!();
+        }
+        measure_one(named, [proved, plain], log, repeats)?;
+    }
+    Ok(())
 }
 
 fn main() -> ExitCode {

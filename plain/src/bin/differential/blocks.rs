@@ -1,13 +1,14 @@
-//! Both executives on the same blocks: valid ones call by call and by whole logs, damaged ones, ones near the counter's end, and ones of wrong size.
+//! Both executives on the same blocks: valid ones call by call and by whole logs, damaged ones, ones with lines and circles, ones near the
+//! counter's end, and ones of wrong size.
 
 use plain::answer::{Call, OUTSIDE};
 use plain::author::{Author, Manner, EDGES};
 use plain::block::{self, SIZE};
 use plain::configuration::Configuration;
-use plain::logs::{MEASURED, MEASURED_64};
+use plain::logs::{CHAINED, CHAINED_64, MEASURED, MEASURED_64};
 use plain::proved;
 use plain::random::Random;
-use plain::table::Table;
+use plain::table::{Awaited, Mark, State, Table, REGIONS};
 
 use crate::Compared;
 
@@ -21,23 +22,35 @@ const SMALL: Configuration = Configuration {
     queues: 2,
     priorities: &[5, 5, 2],
     bounds: &[2, 5],
+    marks: &[0, 0],
+};
+
+const SMALL_OPEN: Configuration = Configuration {
+    tasks: 5,
+    regions: 4,
+    priorities: &[5, 5, 2, 9, 2],
+    marks: &[1, 1, 0, 1],
+    ..SMALL
 };
 
 const MANNER: Manner = Manner {
     slip: 24,
     longest_delay: 40,
     kept_alive: 2,
+    in_lines: 12,
 };
 
 /// What is compared, and how.
 type Part = (&'static str, fn() -> Compared);
 
 pub fn compare() -> Compared {
-    let parts: [Part; 6] = [
+    let parts: [Part; 8] = [
         ("fresh blocks", fresh_blocks),
         ("blocks call by call", replayed),
         ("logs replayed at once", at_once),
         ("damaged blocks", damaged),
+        ("blocks with other lines", other_lines),
+        ("blocks with chains and circles", chains_and_circles),
         ("blocks at the counter's end", near_the_end),
         ("blocks of other sizes", other_sizes),
     ];
@@ -50,9 +63,9 @@ pub fn compare() -> Compared {
     Ok(total)
 }
 
-/// An author with one of three configurations by turns.
+/// An author with one of six configurations by turns.
 fn author(seed: u64) -> (Configuration<'static>, Author) {
-    let configuration = [MEASURED, SMALL, MEASURED_64][seed as usize % 3];
+    let configuration = [MEASURED, SMALL_OPEN, CHAINED_64, SMALL, CHAINED, MEASURED_64][seed as usize % 6];
     (configuration, Author::new(&configuration, MANNER, Random::new(seed)))
 }
 
@@ -109,12 +122,20 @@ fn fresh_blocks() -> Compared {
         };
         let priorities = list(tasks, &|random| random.below(256) as u8);
         let bounds = list(queues, &|random| if random.one_in(20) { random.below(256) } else { random.within(1, 64) } as u8);
+        let marks = list(regions, &|random| {
+            if random.one_in(40) {
+                random.of(&[2, 3, 128, 255])
+            } else {
+                random.below(2) as u8
+            }
+        });
         let configuration = Configuration {
             tasks,
             regions,
             queues,
             priorities: &priorities,
             bounds: &bounds,
+            marks: &marks,
         };
         let (mut ours, mut theirs) = (vec![round as u8; SIZE], vec![round as u8; SIZE]);
         let both = (proved::fresh(&mut ours, &configuration), block::fresh(&mut theirs, &configuration));
@@ -212,6 +233,133 @@ fn damaged() -> Compared {
     Ok(answers)
 }
 
+/// Deep blocks in which one task waits for another region or for none, one region has another holder, or another mark; with the task
+/// elected that then is to be, where there is one.
+fn other_lines() -> Compared {
+    let mut random = Random::new(9);
+    let mut answers = 0;
+    for seed in 0..LOGS {
+        let table = Table::unpacked(&deep(seed)).expect("the block of a table");
+        let tasks = table.task_count;
+        let mut ask = |what: &str, changed: &mut Table| -> Compared {
+            let what = format!("seed {seed}, {what}");
+            let answers = asked(&what, &changed.packed(), &mut random)?;
+            if changed
+                .regions
+                .iter()
+                .all(|region| region.holder.is_none_or(|holder| holder < tasks))
+                && changed
+                    .tasks
+                    .iter()
+                    .all(|task| task.awaits.region().is_none_or(|region| region < REGIONS))
+            {
+                changed.elected = changed.election();
+                return Ok(answers + asked(&what, &changed.packed(), &mut random)?);
+            }
+            Ok(answers)
+        };
+        for task in 0..usize::from(tasks) {
+            for awaits in (0..=17).chain([255]) {
+                let mut changed = table.clone();
+                changed.tasks[task].awaits = Awaited(awaits);
+                answers += ask(&format!("task {task} awaits {awaits}"), &mut changed)?;
+            }
+        }
+        for region in 0..REGIONS {
+            for holder in (0..=tasks).chain([tasks + 1, 255]) {
+                let mut changed = table.clone();
+                changed.regions[region].holder = holder.checked_sub(1);
+                changed.regions[region].entries = u8::from(holder > 0);
+                answers += ask(&format!("region {region} has holder {holder}"), &mut changed)?;
+            }
+            for mark in [0, 1, 2, 255] {
+                let mut changed = table.clone();
+                changed.regions[region].mark = Mark(mark);
+                answers += ask(&format!("region {region} has mark {mark}"), &mut changed)?;
+            }
+        }
+    }
+    Ok(answers)
+}
+
+/// Chains of 1 to 16 tasks, each of which holds a region and waits for the next one's, some closed to a circle, and others waiting for any of
+/// their regions: the check, and where it passes some calls.
+fn chains_and_circles() -> Compared {
+    let mut random = Random::new(10);
+    let mut answers = 0;
+    for round in 0..4_000 {
+        let (mut table, circle) = chained(&mut random);
+        let what = format!("{} {round}", if circle { "circle" } else { "chain" });
+        if table.is_valid() == circle {
+            return Err(format!("{what}: not built as it should be"));
+        }
+        answers += asked(&what, &table.packed(), &mut random)?;
+        for elected in [None, Some(0), Some(random.below(table.task_count.into()) as u8)] {
+            let mut other = table.clone();
+            other.elected = elected;
+            answers += asked(&what, &other.packed(), &mut random)?;
+        }
+        if circle {
+            continue;
+        }
+        table.elected = table.election();
+        let mut author = Author::new(&SMALL, MANNER, Random::new(round)).with(table);
+        let mut block = author.table().packed();
+        for number in 0..12 {
+            let call = author.call().0;
+            block = call_agrees(&format!("{what}, call {number}"), &block, &call)?;
+            answers += 1;
+        }
+    }
+    Ok(answers)
+}
+
+/// A table with a chain or a circle, and whether it is a circle. Of a circle of one task, that task waits for its own region.
+fn chained(random: &mut Random) -> (Table, bool) {
+    let tasks = random.within(1, 64) as u8;
+    let links = random.within(1, 16.min(tasks.into())) as usize;
+    let priorities: Vec<u8> = (0..tasks).map(|_| random.below(8) as u8).collect();
+    let configuration = Configuration {
+        tasks,
+        regions: REGIONS as u8,
+        queues: 0,
+        priorities: &priorities,
+        bounds: &[],
+        marks: &[1; REGIONS],
+    };
+    let mut table = configuration.fresh().expect("in range");
+    let mut shuffled: Vec<usize> = (0..tasks.into()).collect();
+    for at in (1..shuffled.len()).rev() {
+        shuffled.swap(at, random.below(at as u32 + 1) as usize);
+    }
+    let (chain, others) = shuffled.split_at(links);
+    let first = random.below(REGIONS as u32) as usize;
+    let region = |link: usize| (first + link * 5) % REGIONS;
+    for (link, &task) in chain.iter().enumerate() {
+        table.tasks[task].state = State::READY;
+        table.regions[region(link)].holder = Some(task as u8);
+        table.regions[region(link)].entries = random.within(1, 255) as u8;
+        if link + 1 < links {
+            table.tasks[task].awaits = Awaited::of(region(link + 1));
+        }
+    }
+    for &task in others {
+        if random.one_in(3) {
+            table.tasks[task].state = State::READY;
+            table.tasks[task].awaits = Awaited::of(region(random.below(links as u32) as usize));
+        } else {
+            table.tasks[task].state = random.of(&[State::STOPPED, State::READY]);
+        }
+    }
+    let circle = random.one_in(3);
+    if circle {
+        // The last one of the chain waits for a region of the chain, so that a part of it or all of it is a circle.
+        table.tasks[chain[links - 1]].awaits = Awaited::of(region(random.below(links as u32) as usize));
+    }
+    table.elected = table.election();
+    (table, circle)
+}
+
 /// One call and one query on a block that may be valid or not.
 fn asked(what: &str, block: &[u8], random: &mut Random) -> Compared {
     let caller = if random.one_in(3) { OUTSIDE } else { block[3] };
@@ -262,14 +410,26 @@ fn near_the_end() -> Compared {
     Ok(answers)
 }
 
-/// The size of a block of at most 32 tasks.
+/// The sizes of a block of at most 32 tasks, and of one without lines and marks.
 const BEFORE_T_07: usize = 2968;
+const BEFORE_T_09: usize = 3192;
 
 fn other_sizes() -> Compared {
     let block = deep(0);
     let mut random = Random::new(7);
     let mut answers = 0;
-    for size in [0, 1, 4, BEFORE_T_07, SIZE - 16, SIZE - 1, SIZE + 1, SIZE + 16, 2 * SIZE] {
+    for size in [
+        0,
+        1,
+        4,
+        BEFORE_T_07,
+        BEFORE_T_09,
+        SIZE - 16,
+        SIZE - 1,
+        SIZE + 1,
+        SIZE + 16,
+        2 * SIZE,
+    ] {
         let mut other = block.clone();
         other.resize(size, 0);
         let caller = block[3];

@@ -4,7 +4,7 @@ use std::io::{Read, Write};
 use std::process::{Command, Stdio};
 use std::thread;
 
-use plain::logs::{measured, written, Kind, MEASURED, MEASURED_64, MEASURED_SEED};
+use plain::logs::{written, Kind, Measured, ALL_MEASURED, MEASURED_SEED};
 use plain::random::Random;
 
 use crate::Compared;
@@ -25,7 +25,7 @@ impl Benches {
     }
 }
 
-/// Every kind, and the measured log.
+/// Every kind, and the measured logs.
 pub fn compare(benches: &Benches, logs: u64) -> Compared {
     let mut total = 0;
     for kind in Kind::ALL {
@@ -41,14 +41,14 @@ pub fn compare(benches: &Benches, logs: u64) -> Compared {
         );
         total += answers;
     }
-    for configuration in [MEASURED, MEASURED_64] {
-        let what = format!("measured log of {} tasks", configuration.tasks);
-        let (calls, mix, _) = measured(&configuration, MEASURED_SEED, MEASURED_CALLS);
-        let amiss = mix.amiss();
+    for (name, configuration) in ALL_MEASURED {
+        let what = format!("measured log of {name}");
+        let log = Measured::new(&configuration, MEASURED_SEED, MEASURED_CALLS);
+        let amiss = log.amiss(&configuration);
         if !amiss.is_empty() {
             return Err(format!("{what}: {}", amiss.join("; ")));
         }
-        let answers = compare_one(benches, &what, &written(&configuration, &calls), false)?;
+        let answers = compare_one(benches, &what, &written(&configuration, &log.calls), false)?;
         println!("{what}, seed {MEASURED_SEED}: {answers} answers agree");
         total += answers;
     }

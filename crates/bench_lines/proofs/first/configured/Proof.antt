@@ -1,17 +1,20 @@
--- Each test that fails refuses the line with its number; where none fails, the bounds decide.
+-- Each test that fails refuses the line with its number; where none fails, bounds and marks decide.
 use borrow.Author.Needs.{needs}
 use native.Mathlib.Omega.{arith}
 use Prim.Native.Nat.{_≤_}
 use mathlib.Core.Path.{_∙_}
 use lib.ListN.{getD}
-use Rattle.rules.specs.Numbers.{taskRoom, queueRoom}
+use Rattle.rules.specs.Numbers.{taskRoom, regionRoom, queueRoom}
 use Rattle.bench_lines.proofs.Plain.{plain-short}
 use Rattle.bench_lines.proofs.Configuration.{array-long, counts-small, counts-refuse, length-refuses, accepted}
 use Rattle.bench_lines.proofs.first.configured.Statement.{statement}
 use Rattle.bench_lines.proofs.first.configured.Tie as tie
 
 -- where the counts are in range, they are small
-small : (c : tie.Else1) → (getD (c .before .before .numbers-of .result) 0 0 ≤ taskRoom) × (getD (c .before .before .numbers-of .result) 2 0 ≤ queueRoom)
+small : (c : tie.Else1)
+    → (getD (c .before .before .numbers-of .result) 0 0 ≤ taskRoom)
+    × (getD (c .before .before .numbers-of .result) 1 0 ≤ regionRoom)
+    × (getD (c .before .before .numbers-of .result) 2 0 ≤ queueRoom)
 small c =
     let read = c .before .before in
     let pre = read .before .before .pre in
@@ -42,17 +45,23 @@ returns c =
     c .first-refused .ensures
     ∙ counts-refuse _ _ (read .numbers-of .ensures) (pre .0) (pre .1) _ (c .before .before .counts-right .ensures) (c .before .if1 .taken)
 
-cast-from : tie.Need-cast-from
-cast-from c = search needs
+cast-bounds : tie.Need-cast-bounds
+cast-bounds c = search needs
 
-add-from : tie.Need-add-from
-add-from c = let s = small c in record { fits = omega arith }
+add-bounds : tie.Need-add-bounds
+add-bounds c = let s = small c in record { fits = omega arith }
 
-cast-to : tie.Need-cast-to
-cast-to c = search needs
+cast-marks : tie.Need-cast-marks
+cast-marks c = search needs
 
-add-to : tie.Need-add-to
-add-to c = let s = small c in record { fits = omega arith }
+add-marks : tie.Need-add-marks
+add-marks c = let s = small c in record { fits = omega arith }
+
+cast-end : tie.Need-cast-end
+cast-end c = search needs
+
+add-end : tie.Need-add-end
+add-end c = let s = small c in record { fits = omega arith }
 
 mul-if2 : tie.Need-mul-if2
 mul-if2 c = let s = small c in record { fits = omega arith }
@@ -76,7 +85,7 @@ fresh-from-requires c κs =
     let read = c .before .before .before .before in
     let s = small (c .before .before) in
     let l = array-long _ _ (read .numbers-of .ensures) (read .before .before .pre .0) in
-    (omega arith, omega arith, omega arith)
+    (omega arith, omega arith, omega arith, omega arith)
 
 returns-3 : tie.Need-returns-3
 returns-3 c =
@@ -97,10 +106,12 @@ configured-spec =
     counts-right-requires
     first-refused-requires
     returns
-    cast-from
-    add-from
-    cast-to
-    add-to
+    cast-bounds
+    add-bounds
+    cast-marks
+    add-marks
+    cast-end
+    add-end
     mul-if2
     first-refused-requires-2
     returns-2

@@ -1,4 +1,4 @@
--- What `fresh` ensures, of the two parts of the numbers.
+-- What `fresh` ensures, of the three parts of the numbers.
 use borrow.Author.Needs.{needs}
 use Rattle.bench_lines.proofs.first.fresh_from.Statement.{statement}
 use Rattle.bench_lines.proofs.first.fresh_from.Tie as tie
@@ -21,6 +21,15 @@ part-fresh-start-2 c = search needs
 part-fresh-end-2 : tie.Need-part-fresh-end-2
 part-fresh-end-2 c = search needs
 
+sub-fresh-3 : tie.Need-sub-fresh-3
+sub-fresh-3 c = search needs
+
+part-fresh-start-3 : tie.Need-part-fresh-start-3
+part-fresh-start-3 c = search needs
+
+part-fresh-end-3 : tie.Need-part-fresh-end-3
+part-fresh-end-3 c = search needs
+
 fresh-requires : tie.Need-fresh-requires
 fresh-requires c κs = search needs
 
@@ -37,5 +46,8 @@ fresh-from-spec =
     sub-fresh-2
     part-fresh-start-2
     part-fresh-end-2
+    sub-fresh-3
+    part-fresh-start-3
+    part-fresh-end-3
     fresh-requires
     returns)

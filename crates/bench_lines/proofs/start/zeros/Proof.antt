@@ -13,6 +13,9 @@ slice-aggregate-fresh c = search needs
 slice-aggregate-fresh-2 : tie.Need-slice-aggregate-fresh-2
 slice-aggregate-fresh-2 c = search needs
 
+slice-aggregate-fresh-3 : tie.Need-slice-aggregate-fresh-3
+slice-aggregate-fresh-3 c = search needs
+
 fresh-requires : tie.Need-fresh-requires
 fresh-requires c κs = search needs
 
@@ -22,4 +25,4 @@ returns c = ap (λ d. d .table) (c .before .fresh .ensures)
 
 pub zeros-spec : {M : Type 1} → statement M
 zeros-spec =
-    tie.close (tie.spec slice-aggregate-fresh slice-aggregate-fresh-2 fresh-requires returns)
+    tie.close (tie.spec slice-aggregate-fresh slice-aggregate-fresh-2 slice-aggregate-fresh-3 fresh-requires returns)

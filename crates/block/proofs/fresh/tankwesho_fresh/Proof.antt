@@ -5,7 +5,7 @@ use Rattle.block.proofs.fresh.tankwesho_fresh.Statement.{statement}
 use Rattle.block.proofs.fresh.tankwesho_fresh.Tie as tie
 
 returns : tie.Need-returns
-returns c = fresh-refused _ _ _ _ _ _ (c .if1 .taken)
+returns c = fresh-refused _ _ _ _ _ _ _ (c .if1 .taken)
 
 fresh-requires : tie.Need-fresh-requires
 fresh-requires c κs = search needs
@@ -23,7 +23,7 @@ returns-2 : tie.Need-returns-2
 returns-2 c =
     let packed = c .before .before .before in
     let made = packed .before .before in
-    fresh-made _ _ _ _ _ _ _ _ _ (made .before .if1 .left) (made .fresh .ensures) (packed .pack .ensures) (c .answer-number .ensures)
+    fresh-made _ _ _ _ _ _ _ _ _ _ (made .before .if1 .left) (made .fresh .ensures) (packed .pack .ensures) (c .answer-number .ensures)
 
 pub tankwesho-fresh-spec : {M : Type 1} → statement M
 tankwesho-fresh-spec =

@@ -1,30 +1,20 @@
--- One task is written; where its state changes, the election and the timers are those of the step.
+-- One task is written; where its state changes, its place in a line, the election and the timers are those of the step.
 use borrow.Author.Needs.{needs}
-use mathlib.Core.Path.{_≡_, ap}
+use mathlib.Core.Path.{ap}
 use Prim.Native.Nat.{_<_}
-use lib.ListN.{length, length-set}
-use Rattle.rules.specs.Numbers.{taskRoom, regionRoom, ENTER}
+use lib.ListN.{length-set}
+use Rattle.rules.specs.Numbers.{ENTER}
 use Rattle.tables.specs.Fronts.{whole, frontDone}
+use Rattle.tables.proofs.Lengths.{Lengths}
 use Rattle.calls.proofs.Done.{task-kept, task-changed}
 use Rattle.calls.proofs.task.task_call.Statement.{statement}
 use Rattle.calls.proofs.task.task_call.Tie as tie
 
+long : (c : tie.Start) → Lengths (c .args .t1)
+long c = search needs
+
 low : (c : tie.Start) → c .args .k .operation < ENTER
 low c = search needs
-
-long : (c : tie.Start) → (length (c .args .t1 .priority) ≡ taskRoom) × ((length (c .args .t1 .state) ≡ taskRoom) × (length (c .args .t1 .holder) ≡ regionRoom))
-long c = (search needs, (search needs, search needs))
-
--- ---- the way back, from call to call
-
-abbrev to-after : tie.After-pick → tie.After-task-after
-to-after c = c .before .before
-
-abbrev to-target : tie.After-task-after → tie.After-target-of
-to-target c = c .before .before .before .before .before .before .before .before
-
-abbrev to-start : tie.After-pick → tie.Start
-to-start c = to-target (to-after c) .before
 
 target-of-requires : tie.Need-target-of-requires
 target-of-requires c κs = search needs
@@ -32,14 +22,14 @@ target-of-requires c κs = search needs
 cast-i : tie.Need-cast-i
 cast-i c = search needs
 
-element-copy-out-elect : tie.Need-element-copy-out-elect
-element-copy-out-elect c = search needs
+element-copy-out-t : tie.Need-element-copy-out-t
+element-copy-out-t c = search needs
 
-mul-t13 : tie.Need-mul-t13
-mul-t13 c = search needs
+mul-t14 : tie.Need-mul-t14
+mul-t14 c = search needs
 
-element-copy-out-t19 : tie.Need-element-copy-out-t19
-element-copy-out-t19 c = search needs
+element-copy-out-t20 : tie.Need-element-copy-out-t20
+element-copy-out-t20 c = search needs
 
 mul-met-by : tie.Need-mul-met-by
 mul-met-by c = search needs
@@ -85,20 +75,38 @@ element-write-t-4 c = search needs
 
 returns : tie.Need-returns
 returns c =
-    let p = c .before .before .before in
-    let s = to-start p in
+    let at-pick = c .before .before .before in
+    let at-task-after = at-pick .before .before in
+    let at-met-by = at-task-after .before in
+    let at-target-of = at-met-by .before .before .before .before .before .before .before in
+    let s = at-target-of .before in
     λ es cs z.
-    ap frontDone
-    (task-kept (whole (s .args .t1) es cs) (s .args .k) z (low s) (to-target (to-after p) .target-of .ensures) (to-after p .task-after .ensures)
-    (to-after p .before .met-by .ensures) (p .pick .ensures) (c .if1 .taken))
+    ap frontDone (task-kept (whole (s .args .t1) es cs) (s .args .k) z (low s) (at-target-of .target-of .ensures)
+    (at-task-after .task-after .ensures) (at-met-by .met-by .ensures) (at-pick .pick .ensures) (c .if1 .taken))
 
-held-by-requires : tie.Need-held-by-requires
-held-by-requires c κs = long (to-start (c .before .before .before .before .before)) .1 .1
+element-copy-out-pick : tie.Need-element-copy-out-pick
+element-copy-out-pick c = search needs
 
-elect-requires : tie.Need-elect-requires
-elect-requires c κs =
-    let l = long (to-start (c .before .before .before .before .before .before .before .before .before)) in
-    (rw length-set (l .1 .0), l .0)
+pick-requires-2 : tie.Need-pick-requires-2
+pick-requires-2 c κs = search needs
+
+element-write-t-5 : tie.Need-element-write-t-5
+element-write-t-5 c = search needs
+
+closed-held-requires : tie.Need-closed-held-requires
+closed-held-requires c κs =
+    let back-8 = c .before .before .before .before .before .before .before .before in
+    let back-16 = back-8 .before .before .before .before .before .before .before .before in
+    let n = long (back-16 .before .before .before .before .before) in
+    (n .opened-long, n .holder-long)
+
+elect-now-requires : tie.Need-elect-now-requires
+elect-now-requires c κs =
+    let back-8 = c .before .before .before .before .before .before .before .before in
+    let back-16 = back-8 .before .before .before .before .before .before .before .before in
+    let back-24 = back-16 .before .before .before .before .before .before .before .before in
+    let n = long (back-24 .before .before .before .before) in
+    (rw length-set (n .state-long), (n .priority-long, (rw length-set (n .awaits-long), (n .opened-long, n .holder-long))))
 
 cast-timers-left : tie.Need-cast-timers-left
 cast-timers-left c = search needs
@@ -108,13 +116,19 @@ timers-left-requires c κs = search needs
 
 returns-2 : tie.Need-returns-2
 returns-2 c =
-    let held = c .before .before .before .before .before .before in
-    let p = held .before .before .before .before .before .before in
-    let s = to-start p in
+    let at-elect-now = c .before .before in
+    let at-closed-held = at-elect-now .before .before .before .before .before .before .before in
+    let at-pick2 = at-closed-held .before .before .before .before in
+    let at-pick = at-pick2 .before .before .before .before .before .before .before in
+    let at-task-after = at-pick .before .before in
+    let at-met-by = at-task-after .before in
+    let at-target-of = at-met-by .before .before .before .before .before .before .before in
+    let s = at-target-of .before in
     λ es cs z.
-    ap frontDone
-    (task-changed (whole (s .args .t1) es cs) (s .args .k) z (low s) (to-target (to-after p) .target-of .ensures) (to-after p .task-after .ensures)
-    (to-after p .before .met-by .ensures) (p .pick .ensures) _ _ _ (c .timers-left .ensures) (held .held-by .ensures) (c .before .before .elect .ensures))
+    ap frontDone (task-changed (whole (s .args .t1) es cs) (s .args .k) z (low s) (at-target-of .target-of .ensures)
+    (at-task-after .task-after .ensures) (at-met-by .met-by .ensures) (at-pick .pick .ensures) _
+    _ _ _ (c .timers-left .ensures) (at-pick2 .pick2 .ensures) (at-closed-held .closed-held .ensures)
+    (at-elect-now .elect-now .ensures))
 
 pub task-call-spec : {M : Type 1} → statement M
 task-call-spec =
@@ -122,9 +136,9 @@ task-call-spec =
     (tie.spec
     target-of-requires
     cast-i
-    element-copy-out-elect
-    mul-t13
-    element-copy-out-t19
+    element-copy-out-t
+    mul-t14
+    element-copy-out-t20
     mul-met-by
     element-copy-out-met-by
     element-copy-out-met-by-2
@@ -140,8 +154,11 @@ task-call-spec =
     element-write-t-3
     element-write-t-4
     returns
-    held-by-requires
-    elect-requires
+    element-copy-out-pick
+    pick-requires-2
+    element-write-t-5
+    closed-held-requires
+    elect-now-requires
     cast-timers-left
     timers-left-requires
     returns-2)

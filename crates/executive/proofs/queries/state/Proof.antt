@@ -1,6 +1,7 @@
 -- The value is read as the definition reads it.
 use borrow.Author.Needs.{needs}
-use mathlib.Core.Path.{_∙_}
+use mathlib.Core.Path.{_∙_, ap₂}
+use Rattle.rules.specs.Urgency.{stateWith}
 use Rattle.executive.proofs.TaskQueries.{state-is}
 use Rattle.executive.proofs.queries.state.Statement.{statement}
 use Rattle.executive.proofs.queries.state.Tie as tie
@@ -14,6 +15,12 @@ object-status-requires c κs = search needs
 byte-at-requires : tie.Need-byte-at-requires
 byte-at-requires c κs = search needs
 
+byte-at-requires-2 : tie.Need-byte-at-requires-2
+byte-at-requires-2 c κs = search needs
+
+state-with-requires : tie.Need-state-with-requires
+state-with-requires c κs = search needs
+
 cast-reply-of : tie.Need-cast-reply-of
 cast-reply-of c = search needs
 
@@ -22,8 +29,12 @@ reply-of-requires c κs = search needs
 
 returns : tie.Need-returns
 returns c =
-    let status = c .before .before .before .before .before in
-    c .reply-of .ensures ∙ state-is _ _ _ (status .before .is-valid .ensures) _ _ (status .object-status .ensures) (c .before .byte-at .ensures)
+    let at-byte-at2 = c .before .before in
+    let at-byte-at = at-byte-at2 .before .before .before .before in
+    let at-object-status = at-byte-at .before .before .before .before in
+    let at-is-valid = at-object-status .before in
+    let value = c .before .state-with .ensures ∙ ap₂ stateWith (at-byte-at2 .byte-at2 .ensures) (at-byte-at .byte-at .ensures) in
+    c .reply-of .ensures ∙ state-is _ _ _ (at-is-valid .is-valid .ensures) _ _ (at-object-status .object-status .ensures) value
 
 pub state-spec : {M : Type 1} → statement M
 state-spec =
@@ -32,6 +43,8 @@ state-spec =
     is-valid-requires
     object-status-requires
     byte-at-requires
+    byte-at-requires-2
+    state-with-requires
     cast-reply-of
     reply-of-requires
     returns)

@@ -59,6 +59,18 @@ slice-aggregate-take-bytes-7 c = search needs
 take-bytes-requires-7 : tie.Need-take-bytes-requires-7
 take-bytes-requires-7 c κs = search needs
 
+slice-aggregate-take-bytes-8 : tie.Need-slice-aggregate-take-bytes-8
+slice-aggregate-take-bytes-8 c = search needs
+
+take-bytes-requires-8 : tie.Need-take-bytes-requires-8
+take-bytes-requires-8 c κs = search needs
+
+slice-aggregate-take-bytes-9 : tie.Need-slice-aggregate-take-bytes-9
+slice-aggregate-take-bytes-9 c = search needs
+
+take-bytes-requires-9 : tie.Need-take-bytes-requires-9
+take-bytes-requires-9 c κs = search needs
+
 slice-aggregate-take-words : tie.Need-slice-aggregate-take-words
 slice-aggregate-take-words c = search needs
 
@@ -90,9 +102,11 @@ returns c =
     let ticks = timers .before .before in
     let length = ticks .before .before .before in
     let bound = length .before .before .before in
-    let entries = bound .before .before .before in
+    let opened = bound .before .before .before in
+    let entries = opened .before .before .before in
     let holder = entries .before .before .before in
-    let operator = holder .before .before .before in
+    let awaits = holder .before .before .before in
+    let operator = awaits .before .before .before in
     let list = operator .before .before .before in
     let arrived = list .before .before .before in
     let state = arrived .before .before .before in
@@ -108,10 +122,12 @@ returns c =
       arrived = arrived .take-halves .ensures x;
       list = list .take-halves2 .ensures x;
       operator = operator .take-bytes3 .ensures x;
-      holder = holder .take-bytes4 .ensures x;
-      entries = entries .take-bytes5 .ensures x;
-      bound = bound .take-bytes6 .ensures x;
-      length = length .take-bytes7 .ensures x;
+      awaits = awaits .take-bytes4 .ensures x;
+      holder = holder .take-bytes5 .ensures x;
+      entries = entries .take-bytes6 .ensures x;
+      opened = opened .take-bytes7 .ensures x;
+      bound = bound .take-bytes8 .ensures x;
+      length = length .take-bytes9 .ensures x;
       ticks = getD (ticks .take-words .ensures x) 0 0;
       timers = timers .timers-at .ensures x;
     }
@@ -138,6 +154,10 @@ front-in-spec =
     take-bytes-requires-6
     slice-aggregate-take-bytes-7
     take-bytes-requires-7
+    slice-aggregate-take-bytes-8
+    take-bytes-requires-8
+    slice-aggregate-take-bytes-9
+    take-bytes-requires-9
     slice-aggregate-take-words
     take-words-requires
     timers-at-requires

@@ -21,6 +21,9 @@ put-halves-requires-2 c κs = search needs
 put-bytes-requires-3 : tie.Need-put-bytes-requires-3
 put-bytes-requires-3 c κs = search needs
 
+put-bytes-requires-4 : tie.Need-put-bytes-requires-4
+put-bytes-requires-4 c κs = search needs
+
 returns : tie.Need-returns
 returns c = cc
 
@@ -36,5 +39,6 @@ put-columns-spec =
     put-halves-requires
     put-halves-requires-2
     put-bytes-requires-3
+    put-bytes-requires-4
     same-length
     returns)

@@ -24,8 +24,8 @@ returns : tie.Need-returns
 unfolding headPut
 returns c =
     let heads = c .before .before in
-    let columns = heads .before .before .before .before .before .before .before .before .before .before .before .before .before in
-    let counts = columns .before .before .before .before .before .before .before .before .before .before .before .before .before .before .before in
+    let columns = heads .before .before .before .before .before .before .before .before .before .before .before .before .before .before .before in
+    let counts = columns .before .before .before .before .before .before .before .before .before .before .before .before .before .before .before .before .before in
     rw (heads .put-heads .ensures, columns .put-columns .ensures, counts .put-bytes .ensures) refl
 
 pub put-head-spec : {M : Type 1} → statement M

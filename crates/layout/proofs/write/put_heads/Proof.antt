@@ -15,6 +15,9 @@ put-bytes-requires-3 c κs = search needs
 put-bytes-requires-4 : tie.Need-put-bytes-requires-4
 put-bytes-requires-4 c κs = search needs
 
+put-bytes-requires-5 : tie.Need-put-bytes-requires-5
+put-bytes-requires-5 c κs = search needs
+
 same-length : tie.Need-same-length
 same-length c = search needs
 
@@ -29,5 +32,6 @@ put-heads-spec =
     put-bytes-requires-2
     put-bytes-requires-3
     put-bytes-requires-4
+    put-bytes-requires-5
     same-length
     returns)

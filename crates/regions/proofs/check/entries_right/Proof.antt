@@ -37,7 +37,9 @@ loop-less : tie.Need-loop-less Inv-loop μ-loop
 loop-less c = search needs
 
 loop-again : tie.Need-loop-again Inv-loop μ-loop
-loop-again c = (search needs, below-again _ _ _ _ (c .before .before .before .before .loop .inv .1) (c .entries-fit .ensures))
+loop-again c =
+    let at-loop = c .before .before .before .before in
+    (search needs, below-again _ _ _ _ (at-loop .loop .inv .1) (c .entries-fit .ensures))
 
 returns : tie.Need-returns Inv-loop μ-loop
 unfolding entriesEverywhere

@@ -5,16 +5,16 @@ use mathlib.Core.Path.{_≡_}
 use lib.ListN.{getD}
 use Rattle.rules.specs.Numbers.{regionRoom}
 use Rattle.rules.specs.Words.{below}
-use Rattle.rules.proofs.Counts.{below-again, below-end}
 use Rattle.rules.specs.Checks.{regionFits, regionsRight}
+use Rattle.rules.proofs.Counts.{below-again, below-end}
 use Rattle.regions.proofs.check.regions_right.Statement.{statement}
 use Rattle.regions.proofs.check.regions_right.Tie as tie
 
 abbrev Inv-loop : tie.InvT-loop
-Inv-loop regions v holder ok₀ i₀ ok i = (i ≤ regionRoom) × (ok ≡ below i (λ j. regionFits regions v j (getD holder j 0)))
+Inv-loop regions v opened holder ok₀ i₀ ok i = (i ≤ regionRoom) × (ok ≡ below i (λ j. regionFits regions v j (getD opened j 0) (getD holder j 0)))
 
 abbrev μ-loop : tie.MeasureT-loop
-μ-loop regions v holder ok₀ i₀ ok i = regionRoom - i
+μ-loop regions v opened holder ok₀ i₀ ok i = regionRoom - i
 
 loop-holds : tie.Need-loop-holds Inv-loop μ-loop
 unfolding below
@@ -26,6 +26,9 @@ cast-region-fits c = search needs
 element-copy-out-region-fits : tie.Need-element-copy-out-region-fits Inv-loop μ-loop
 element-copy-out-region-fits c = search needs
 
+element-copy-out-region-fits-2 : tie.Need-element-copy-out-region-fits-2 Inv-loop μ-loop
+element-copy-out-region-fits-2 c = search needs
+
 region-fits-requires : tie.Need-region-fits-requires Inv-loop μ-loop
 region-fits-requires c κs = search needs
 
@@ -36,7 +39,9 @@ loop-less : tie.Need-loop-less Inv-loop μ-loop
 loop-less c = search needs
 
 loop-again : tie.Need-loop-again Inv-loop μ-loop
-loop-again c = (search needs, below-again _ _ _ _ (c .before .before .before .loop .inv .1) (c .region-fits .ensures))
+loop-again c =
+    let at-loop = c .before .before .before .before in
+    (search needs, below-again _ _ _ _ (at-loop .loop .inv .1) (c .region-fits .ensures))
 
 returns : tie.Need-returns Inv-loop μ-loop
 unfolding regionsRight
@@ -51,6 +56,7 @@ regions-right-spec =
     loop-holds
     cast-region-fits
     element-copy-out-region-fits
+    element-copy-out-region-fits-2
     region-fits-requires
     add-i
     loop-less
