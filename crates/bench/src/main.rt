@@ -1,4 +1,6 @@
 // The bench: lines on standard input, an answer line for each on standard output. The work is `session`'s; this program only moves bytes.
+#![tactic(auto)]
+
 ghost use Rattle.std.specs.Prelude.{◌*◌, ◌<◌, ◌≤◌, length, take};
 ghost use Rattle.frames.specs.Answers.{answer_length};
 ghost use Rattle.session.specs.Run.{most_kept};

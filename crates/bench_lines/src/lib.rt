@@ -1,4 +1,6 @@
 // The lines of a bench session: what stands before the first, what the first does, and what a later one asks for and does.
+#![tactic(auto)]
+
 mod first;
 mod later;
 mod start;

@@ -1,4 +1,6 @@
 // The three functions for C, on a block of bytes that the firmware lends: make fresh, one call, one query.
+#![tactic(auto)]
+
 mod call;
 mod fresh;
 mod query;

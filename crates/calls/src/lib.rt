@@ -1,4 +1,6 @@
 // One call on a table whose store is lent: refused with the first reason that applies, or done by its kind.
+#![tactic(auto)]
+
 mod call;
 mod queue;
 mod region;

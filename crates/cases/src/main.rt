@@ -1,5 +1,7 @@
 // Whole bench inputs, fed to a session piece by piece, or walked over line by line: the file `stdin` lists the cases, `data` has their
 // inputs, and the file `stdout` has the answers, worked out by hand. docs/CASES.md says how each follows from document 01.
+#![tactic(auto)]
+
 mod feed;
 mod input;
 mod left;

@@ -1,4 +1,6 @@
 // Upper-case hexadecimal digits, read and written; and numbers in decimal, read.
+#![tactic(auto)]
+
 mod decimal;
 mod read;
 mod write;

@@ -1,4 +1,6 @@
 // Election: the ready task of smallest priority number, and of equals the lowest task number; and the one that it displaces.
+#![tactic(auto)]
+
 ghost use Rattle.std.specs.Prelude.{◌≡◌, cond, ◌&&◌, ◌+◌, ◌^◌, ◌<◌, ◌≤◌, min, eqb, length};
 ghost use Rattle.std.specs.Int.Count.{count_trailing_zeros};
 ghost use Rattle.rules.specs.Numbers.{task_room, priority_end};

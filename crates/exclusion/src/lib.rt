@@ -1,4 +1,6 @@
 // Which of the ten operations exclude each other: the paper's exclusion table, and a question to it.
+#![tactic(auto)]
+
 ghost use Rattle.std.specs.Prelude.{◌≡◌};
 ghost use Rattle.exclusion.specs.Marks.{mark};
 

@@ -1,4 +1,6 @@
 // A line's frame: the call in a call line, and the answer line.
+#![tactic(auto)]
+
 mod answer;
 mod call;
 

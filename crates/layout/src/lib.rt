@@ -1,4 +1,6 @@
 // Where each part of the table stands in a block of bytes, and the table read from a block and written to one.
+#![tactic(auto)]
+
 mod place;
 mod read;
 mod write;

@@ -1,4 +1,6 @@
 // The bench's lines: where a line ends and the next one begins, over a slice and a place by value, and a reader that remembers its place.
+#![tactic(auto)]
+
 mod ends;
 mod reader;
 

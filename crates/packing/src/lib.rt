@@ -1,4 +1,6 @@
 // Numbers and timers in bytes, the lowest byte first, read out of a block and written into one; and an answer as one number.
+#![tactic(auto)]
+
 mod packed_answer;
 mod read;
 mod room;

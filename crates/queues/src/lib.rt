@@ -1,4 +1,6 @@
 // Queues in the flat store: the check of their lengths, of what lies behind them and of the criteria, the place that RETRIEVE takes from, and the gap that it leaves.
+#![tactic(auto)]
+
 mod behind;
 mod check;
 mod gap;

@@ -1,4 +1,6 @@
 // Why a call is refused: the first reason that applies, over a front and the criteria of its store.
+#![tactic(auto)]
+
 mod early;
 mod first_reason;
 mod numbers;

@@ -1,4 +1,6 @@
 // Regions: who holds them, the check of marks, holders and counts, and what ENTER and EXIT do to one.
+#![tactic(auto)]
+
 mod check;
 mod effect;
 mod holder;

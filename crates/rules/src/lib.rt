@@ -1,4 +1,5 @@
 // The things that the rules speak of: tasks, the table, a call and its answer. There is no code here: `specs/` says what each call does.
+#![tactic(auto)]
 
 // How many of each object a table has room for.
 pub const TASKS: usize = 64;

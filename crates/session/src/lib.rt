@@ -1,4 +1,6 @@
 // A bench session: a run over the input piece by piece, and its end.
+#![tactic(auto)]
+
 mod end;
 mod feed;
 mod pieces;

@@ -1,4 +1,6 @@
 // Tables: one entry looked up, a table taken apart into its front and its store, its counts, and a fresh one from a configuration.
+#![tactic(auto)]
+
 mod configuration;
 mod counts;
 mod front;

@@ -1,4 +1,6 @@
 // Tasks: the condition that one waits for, what a signal makes of it, the check of all of them, and what a call does to one.
+#![tactic(auto)]
+
 mod check;
 mod condition;
 mod effect;

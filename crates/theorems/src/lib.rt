@@ -1,1 +1,2 @@
 // What follows from the rules: statements in `specs/`, their proofs in `proofs/`. There is no code here.
+#![tactic(auto)]

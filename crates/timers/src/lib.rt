@@ -1,4 +1,6 @@
 // Timers: the tick counter, the check of all sixteen, what ARM, DISARM and STOP make of them, and a tick.
+#![tactic(auto)]
+
 mod arm;
 mod check;
 mod clock;

@@ -1,5 +1,7 @@
 // The executive on document 01's unmarked examples and on bad input: the file `stdin` lists the trials, a line for each, and the file
 // `stdout` has their answers, worked out by hand. docs/TRIALS.md says how each follows from document 01.
+#![tactic(auto)]
+
 mod blocks;
 mod configurations;
 mod damage;

@@ -1,4 +1,6 @@
 // Urgency: how urgent each task is through the tasks that it holds up, who gets a region, who is elected, and whether tasks wait in a circle.
+#![tactic(auto)]
+
 mod asking;
 mod check;
 mod circles;
