@@ -24,7 +24,7 @@ struct Round {
 }
 
 // Why a run ends: the input has ended and its answers are written; an answer could not be written; the rounds are used up.
-#[derive(Drop)]
+#[derive(Clone, Copy)]
 enum Reason {
     Input,
     Output,

@@ -13,7 +13,7 @@ use rules::STORE;
 use tables::{Front, FrontDone};
 
 // What a line asks for. `next` is 0 where no line is ended there: behind a line there is at least its line feed.
-#[derive(Drop)]
+#[derive(Clone, Copy)]
 pub struct LaterLine {
     pub request: Request,
     pub next: usize,

@@ -19,7 +19,7 @@ pub const CALL_LINE: usize = CALL + 1;
 const STEP: usize = 16;
 
 // What a place of the input asks for: a call, where a call line stands there.
-#[derive(Drop)]
+#[derive(Clone, Copy)]
 pub struct Request {
     pub call: Call,
     pub good: bool,

@@ -7,7 +7,7 @@ ghost use Rattle.lines.specs.Reading.{place_after};
 pub const LONGEST: usize = 192;
 
 // What begins at a place.
-#[derive(Drop)]
+#[derive(Clone, Copy)]
 pub enum Line {
     // A line of at most LONGEST bytes, start..end, and the place behind its line feed.
     Whole {

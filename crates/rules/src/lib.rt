@@ -74,7 +74,7 @@ pub const TICK: u8 = 12;
 
 // What a call may change of a task; its priority is configured and stays. The state is 0 stopped, 1 ready, 2 waiting for events;
 // bit i of `arrived` and `list` stands for event i.
-#[derive(Drop)]
+#[derive(Clone, Copy)]
 pub struct Task {
     pub state: u8,
     pub arrived: u16,
@@ -84,7 +84,7 @@ pub struct Task {
 
 // A timer that is armed is 1 in `armed`, and signals the event to the task that owns it when the tick counter reaches the date; an
 // idle one is all 0.
-#[derive(Drop)]
+#[derive(Clone, Copy)]
 pub struct Timer {
     pub armed: u8,
     pub owner: u8,
@@ -94,7 +94,7 @@ pub struct Timer {
 
 // What is said of a region: `holder` is 0 where it is free, else the holder's number plus 1; `entries` is how often the holder has
 // entered it and not yet left.
-#[derive(Drop)]
+#[derive(Clone, Copy)]
 pub struct Region {
     pub holder: u8,
     pub entries: u8,
@@ -128,7 +128,7 @@ pub struct Table {
 }
 
 // Who calls, what for, and three numbers.
-#[derive(Drop)]
+#[derive(Clone, Copy)]
 pub struct Call {
     pub caller: u8,
     pub operation: u8,
@@ -138,13 +138,13 @@ pub struct Call {
 }
 
 // What an election answers: who is elected, and the former one if it was pushed aside. 255 stands for nobody.
-#[derive(Drop)]
+#[derive(Clone, Copy)]
 pub struct Elected {
     pub task: u8,
     pub displaced: u8,
 }
 
-#[derive(Drop)]
+#[derive(Clone, Copy)]
 pub struct Answer {
     pub status: u8,
     pub value: u32,

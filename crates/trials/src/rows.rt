@@ -3,7 +3,7 @@ use super::words::value_of;
 use bytes::scan::find;
 
 // A line `TABLE CALLER OPERATION A B C PRIORITIES BOUNDS LAST MARKS MARK`. What a line does not list is 0.
-#[derive(Drop)]
+#[derive(Clone, Copy)]
 pub(crate) struct Row {
     pub(crate) table: u32,
     pub(crate) caller: u32,
