@@ -1,5 +1,5 @@
 -- Laws of who holds: the scan for the first occupied region, and the holder behind an entry.
-use Rattle.std.proofs.Common.{◌≡◌, ℕ, ◌+◌, ◌-◌, ◌<◌, ◌≤◌, Bool, true, false, not, ◌||◌, eqb, ◌≢◌, List, length, get_or, drop, sym, refl, ◌∙◌, ⊎_elim, add-one, drop_of_length-le, drop-cons, eq-eqb, ne_eqb, le-leb}
+use Rattle.std.proofs.Common.{◌≡◌, ℕ, ◌+◌, ◌-◌, ◌<◌, ◌≤◌, Bool, true, false, not, ◌||◌, ◌≢◌, List, length, get_or, drop, sym, refl, ◌∙◌, ⊎_elim, add-one, drop_of_length-le, drop-cons, eq-eqb, ne_eqb, le-leb}
 use lib.ListN.{get_or-eq_default}
 use borrow.Author.Tests.{eqb-false, lt-leb}
 use Rattle.rules.specs.Words.{is_zero}

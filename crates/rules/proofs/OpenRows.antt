@@ -1,6 +1,5 @@
 -- T-09, sentence by sentence: regions that can be waited for, as rows that antt computes. `Rows` has the words that they are written with, and
 -- `OpenTables` what T-09 says of tables.
-use Prim.Native.Nat.{ℕ}
 use mathlib.Core.Path.{◌≡◌, refl}
 use mathlib.Core.Bool.{Bool, true, ◌&&◌}
 use mathlib.Core.List.{List, [], ◌∷◌}

@@ -6,7 +6,6 @@ use mathlib.Core.List.{List}
 use lib.Dec.{eqb, ltb}
 use lib.ListN.{get_or, length, get_or-eq_default}
 use borrow.Author.Tests.{eqb-true, ltb-true, ltb-false}
-use native.Mathlib.Omega.{arith}
 use Rattle.rules.specs.Numbers.{task_room, region_room}
 use Rattle.rules.specs.Words.{is_zero}
 use Rattle.rules.specs.Tasks.{ready}

@@ -9,7 +9,7 @@ use lib.Dec.{leb, ltb}
 use lib.ListN.{get_or, length, get_or-eq_default}
 use borrow.Author.Tests.{eqb-true, leb-true, leb-false, ltb-true, ltb-false}
 use Rattle.rules.specs.Numbers.{task_room, region_room, priority_end}
-use Rattle.rules.specs.Words.{is_zero, column}
+use Rattle.rules.specs.Words.{is_zero}
 use Rattle.rules.specs.Election.{smallest}
 use Rattle.rules.specs.Urgency.{awaiting, holding, nobody_awaits, state_with, states_with, urgency_by, region_urgency, task_urgency, urgencies}
 use Rattle.rules.proofs.Counts.{below_at}

@@ -6,11 +6,18 @@ use native.Mathlib.Omega.{arith}
 use native.Mathlib.Numerals.{add-one}
 use lib.ListN.{get_or, set, length, take, replicate}
 use lib.Seq.{take-suc, length-take-le, set_at}
+use mathlib.Core.Bool.{Bool}
+use lib.Dec.{ltb}
+use Rattle.rules.specs.Numbers.{priority_end}
 use Rattle.rules.specs.Words.{padded}
 
 -- the first i entries of the list, and zeros up to the end of the room
 unfoldable pub filled : ℕ → ℕ → List ℕ → List ℕ
 filled room i l = take i l ++ replicate (room - i) 0
+
+-- a number that is a priority: each byte is one
+abbrev pub is_priority : ℕ → Bool
+is_priority p = ltb p priority_end
 
 module _ (room i : ℕ) (l s : List ℕ) where
   -- one entry more

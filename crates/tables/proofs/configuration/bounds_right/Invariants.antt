@@ -1,0 +1,10 @@
+-- The flag so far is the test of every bound passed.
+use Prim.Native.Nat.{◌≤◌}
+use mathlib.Core.Path.{◌≡◌}
+use lib.ListN.{take}
+use Rattle.rules.specs.Words.{every}
+use Rattle.rules.specs.Validity.{bound_in_range}
+use Rattle.tables.proofs.configuration.bounds_right.Given as goal
+
+abbrev pub invariant-loop-i : goal.invariant-loop-i
+invariant-loop-i l = (l.i ≤ l.queues) × (l.ok ≡ every bound_in_range (take l.i l.bounds))

@@ -1,0 +1,5 @@
+-- The table of zeros, 20, and 255 for the elected task.
+use Rattle.tables.proofs.configuration.out_of_range.Goals as goal
+
+pub returns : goal.returns
+returns c = rw c.zero_table.ensures
