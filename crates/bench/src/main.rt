@@ -15,7 +15,7 @@ const BUFFER: usize = 16384;
 
 // After one round: where the session stands, how many bytes at the front of the buffer belong to a line that goes on, how many bytes of
 // answers stand at the front of the output, and whether the input has ended.
-#[derive(Drop)]
+#[derive(Clone, Copy)]
 struct Round {
     standing: Standing,
     kept: usize,

@@ -89,7 +89,7 @@ fn first_done(line: &[u8]) -> Done
 }
 
 // What the first line does. `next` is 0 where no line is ended: behind a line there is at least its line feed.
-#[derive(Drop)]
+#[derive(Clone, Copy)]
 pub struct FirstLine {
     pub done: Done,
     pub next: usize,

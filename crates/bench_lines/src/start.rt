@@ -8,7 +8,7 @@ use rules::{Answer, Done, NOBODY, Table};
 use tables::fresh;
 
 // Where a session stands: its table, the table of zeros at the start, and whether the first line has come.
-#[derive(Drop)]
+#[derive(Clone, Copy)]
 pub struct Standing {
     pub table: Table,
     pub begun: bool,

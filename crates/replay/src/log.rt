@@ -12,7 +12,7 @@ use tables::{Front, lesser};
 use validity::front_valid;
 
 // After a log: the front, and how many calls were made.
-#[derive(Drop)]
+#[derive(Clone, Copy)]
 pub(crate) struct LogRun {
     pub(crate) front: Front,
     pub(crate) count: usize,

@@ -104,7 +104,7 @@ pub struct Region {
 // time and a function can be lent just those that it reads; regions likewise. `awaits` has for each task 0, or the number plus 1 of the
 // region that it waits for: such a task is stored as ready, and its state is 3. `opened` has 1 for each open region. Queue q has places 64 q to 64 q + 63 of the flat store,
 // oldest element first.
-#[derive(Drop)]
+#[derive(Clone, Copy)]
 pub struct Table {
     pub tasks: u8,
     pub regions: u8,
@@ -154,7 +154,7 @@ pub struct Answer {
 }
 
 // What a call hands back: the table after it, and the answer.
-#[derive(Drop)]
+#[derive(Clone, Copy)]
 pub struct Done {
     pub table: Table,
     pub answer: Answer,

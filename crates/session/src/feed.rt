@@ -10,7 +10,7 @@ use tables::{front_of, table_of};
 use validity::front_valid;
 
 // How far the lines of a piece have come: the place behind the last of them, and how many bytes of answers were written.
-#[derive(Drop)]
+#[derive(Clone, Copy)]
 pub(crate) struct Progress {
     pub standing: Standing,
     pub next: usize,

@@ -16,7 +16,7 @@ pub const KEPT: usize = LONGEST + 1;
 
 // After a whole piece: how many bytes at the front of the buffer belong to the next piece, at most KEPT where `out` had room for an answer to
 // every byte.
-#[derive(Drop)]
+#[derive(Clone, Copy)]
 pub struct PieceEnd {
     pub standing: Standing,
     pub kept: usize,

@@ -5,7 +5,7 @@ ghost use Rattle.tables.specs.Fronts.{whole, front_of};
 use rules::{Answer, QUEUES, REGIONS, STORE, TASKS, TIMERS, Table, Timer};
 
 // A table without its store, the places of the queues: that part is small enough to go by value from call to call.
-#[derive(Drop)]
+#[derive(Clone, Copy)]
 pub struct Front {
     pub tasks: u8,
     pub regions: u8,
@@ -27,7 +27,7 @@ pub struct Front {
 }
 
 // After a call on a lent store: the rest of the table, and the answer.
-#[derive(Drop)]
+#[derive(Clone, Copy)]
 pub struct FrontDone {
     pub front: Front,
     pub answer: Answer,
