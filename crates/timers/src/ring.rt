@@ -34,7 +34,7 @@ pub fn rung_all(ticks: u32, mut timers: [Timer; TIMERS]) -> [Timer; TIMERS]
 }
 
 // The columns that a signal may change.
-#[derive(Clone, Copy)]
+#[derive(Drop)]
 pub struct Rows {
     pub state: [u8; TASKS],
     pub arrived: [u16; TASKS],
