@@ -7,7 +7,7 @@ use mathlib.Core.Path.{◌≡◌}
 use Prim.Native.Nat.{ℕ}
 use mathlib.Core.List.{List, [], ◌∷◌}
 use seplogic.Ra.Ura.{Ura}
-use seplogic.Ra.TreeShare.PosShare
+use base.Share
 use mir.Syntax.{Opd as Operand, Place, Body, named, seq, call}
 use mir.Val.{Val, vptr}
 use base.Logic.{SProp, ent, sep, id⊢}
@@ -50,7 +50,7 @@ module _ {M : Type 1} {𝓤 : Ura M} (𝓛 : Logic 𝓤) (at_mem : Memory → SP
   open 𝓛 use {H}
 
   abbrev pub to_next : ℕ → GName → (NextLine 𝓛 at_mem run).Ghost
-  to_next ν δ = (((ν ∷ κ, (κ, tt)), (PosShare.left q, (PosShare.right q, tt)), (meet_⊑_right (ν ∷ []) κ, tt), (ref 𝓛 κ q l δ r, tt), (vptr l 0 ∷ [], tt)), tt)
+  to_next ν δ = (((ν ∷ κ, (κ, tt)), (Share.left q, (Share.right q, tt)), (meet_⊑_right (ν ∷ []) κ, tt), (ref 𝓛 κ q l δ r, tt), (vptr l 0 ∷ [], tt)), tt)
 
   goes_next : (ν : ℕ) (δ : GName)
       → ent 𝓤 (sep 𝓤 (Tokens 𝓛 κ q l ν) (sem 𝓛 ((MutRef (named 0) (ν ∷ κ) (R 𝓛 κ q l)).own_val (ref 𝓛 κ q l δ r) (vptr l 0 ∷ []))))
@@ -78,10 +78,12 @@ module _ {M : Type 1} {𝓤 : Ura M} (𝓛 : Logic 𝓤) (at_mem : Memory → SP
       (ensured 𝓛 next-line.ended (next-line.clauses 𝓛 at_mem run) (ν ∷ κ, (κ, tt)) (ref 𝓛 κ q l δ r, tt) tt line)))) (id⊢ 𝓤 _) $ await ! tt $ pick ! (λ line.
       split ! $ move ! (1 ∷ []) $
       use1 𝓛 (some (λ (ws : Reader × Unit {0}). ‵ (lasts next-line.ended (ν ∷ κ, (κ, tt)) (ref 𝓛 κ q l δ r, tt) ws) ⊛ raw (fact 𝓤 (Said r line ws.0)))) (id⊢ 𝓤 _) $ pick ! (λ ws.
-      split ! $ move ! (1 ∷ []) $ heard ! (Said r line ws.0) (λ e. fsplit ! $ move ! (1 ∷ []) $ drop ! $ move ! (1 ∷ []) $ split ! $
+      split ! $ move ! (1 ∷ []) $ heard ! (Said r line ws.0) (λ e. fsplit ! $ move ! (1 ∷ []) $ drop ! $
+      -- [the last value and the borrow that the callee leaves; ..]: of these the last value is kept
+      fsplit ! $ move ! (1 ∷ []) $ drop ! $ move ! (1 ∷ []) $ split ! $
       -- [the tokens; what the line owns; the last value; what the lender keeps; ..]: the lifetime is ended, and the local comes back
       move ! (0 ∷ 3 ∷ 2 ∷ []) $
-      use3 𝓛 (later (‵ (flft κ q) ⊛ (‵ (Cell 𝓛 κ q l (T'.lowered ws.0)) ⊛ ‵ ((R 𝓛 κ q l).own ws.0 (T'.lowered ws.0 ∷ [])))))
+      use3 𝓛 (later (‵ (flft κ q) ⊛ (‵ (Cell 𝓛 κ q l (T'.lowered ws.0)) ⊛ ‵ ((R 𝓛 κ q l).own_val ws.0 (T'.lowered ws.0 ∷ [])))))
       (comes_back 𝓛 κ q l ν δ ws.0) $ await ! tt $ split ! $ move ! (1 ∷ []) $
       use1 𝓛 (‵ ((mem (R 𝓛 κ q l)).own_at ws.0 l 0)) (lies_in 𝓛 κ q l ws.0 (T'.lowered ws.0)) $
       move ! (2 ∷ []) $ goes_on u line ws.0 e))))))

@@ -7,8 +7,8 @@
 use Prim.Native.Nat.{ℕ}
 use mathlib.Core.List.{List, [], ◌∷◌}
 use seplogic.Ra.Ura.{Ura}
-use seplogic.Ra.TreeShare.PosShare
-use seplogic.Ra.TreeShare.{full_share}
+use base.Share
+use base.Fraction.{full_share}
 use mir.Syntax.{named, erased}
 use mir.Val.{Val, vptr}
 use base.Logic.{SProp, ent, sep, ex, emp}
@@ -46,13 +46,13 @@ module _ {M : Type 1} {𝓤 : Ura M} (𝓛 : Logic 𝓤) (κ : Lft) (q : Share) 
   abbrev pub Cell : Val → Fml
   Cell u = fat full_share (T'.mir erased) l 0 u
 
-  pub lies_in : (r : Reader) (u : Val) → ent 𝓤 (sep 𝓤 (sem 𝓛 (Cell u)) (sem 𝓛 (R.own r (u ∷ [])))) (sem 𝓛 ((mem R).own_at r l 0))
+  pub lies_in : (r : Reader) (u : Val) → ent 𝓤 (sep 𝓤 (sem 𝓛 (Cell u)) (sem 𝓛 (R.own_val r (u ∷ [])))) (sem 𝓛 ((mem R).own_at r l 0))
   unfolding part_of
   lies_in r u =
-      qed 𝓛 (‵ (Cell u) ∷ ‵ (R.own r (u ∷ [])) ∷ []) ∵ use1 𝓛 (‵ (cell_at full_share R.mir (u ∷ []) l 0)) (𝓛.laws.at_raw full_share (T'.mir erased) l 0 u) $
-      fjoin ! $ fpack ! (List Val) (λ us. fsep (cell_at full_share R.mir us l 0) (R.own r us)) (u ∷ []) $ done !
+      qed 𝓛 (‵ (Cell u) ∷ ‵ (R.own_val r (u ∷ [])) ∷ []) ∵ use1 𝓛 (‵ (cell_at full_share R.mir (u ∷ []) l 0)) (𝓛.laws.at_raw full_share (T'.mir erased) l 0 u) $
+      fjoin ! $ fpack ! (List Val) (λ us. fsep (cell_at full_share R.mir us l 0) (R.own_val r us)) (u ∷ []) $ done !
 
-  pub lies_out : (r : Reader) → ent 𝓤 (sem 𝓛 ((mem R).own_at r l 0)) (sep 𝓤 (sem 𝓛 (Cell (T'.lowered r))) (sem 𝓛 (R.own r (T'.lowered r ∷ []))))
+  pub lies_out : (r : Reader) → ent 𝓤 (sem 𝓛 ((mem R).own_at r l 0)) (sep 𝓤 (sem 𝓛 (Cell (T'.lowered r))) (sem 𝓛 (R.own_val r (T'.lowered r ∷ []))))
   unfolding part_of
   lies_out r =
       qed 𝓛 (‵ ((mem R).own_at r l 0) ∷ []) ∵ fpick ! (λ vs. fsplit ! $
@@ -61,10 +61,10 @@ module _ {M : Type 1} {𝓤 : Ura M} (𝓛 : Logic 𝓤) (κ : Lft) (q : Share) 
 
   -- the tokens while the Reader is lent
   abbrev pub Tokens : ℕ → SProp 𝓤
-  Tokens ν = sep 𝓤 (A.lft (ν ∷ κ) (PosShare.left q)) (sep 𝓤 (A.lft κ (PosShare.right q)) (emp 𝓤))
+  Tokens ν = sep 𝓤 (A.lft (ν ∷ κ) (Share.left q)) (sep 𝓤 (A.lft κ (Share.right q)) (emp 𝓤))
 
   abbrev pub Kept : ℕ → GName → SProp 𝓤
-  Kept ν δ = sep 𝓤 (Rest 𝓛 ν (PosShare.left q)) (A.lent (ν ∷ κ) (Body (mem R) l 0 δ))
+  Kept ν δ = sep 𝓤 (Rest 𝓛 ν (Share.left q)) (A.lent (ν ∷ κ) (Body (mem R) l 0 δ))
 
   abbrev pub Lent : ℕ → Reader → GName → SProp 𝓤
   Lent ν r δ = sep 𝓤 (Tokens ν) (sep 𝓤 (sem 𝓛 ((MutRef (named 0) (ν ∷ κ) R).own_val (ref δ r) (vptr l 0 ∷ []))) (Kept ν δ))
@@ -75,20 +75,20 @@ module _ {M : Type 1} {𝓤 : Ura M} (𝓛 : Logic 𝓤) (κ : Lft) (q : Share) 
       use1 𝓛 (later (some (λ (δ : GName). ‵ ((MutRef (named 0) (ν ∷ κ) R).own_val (ref δ r) (vptr l 0 ∷ [])) ⊛ ‵ (flent (ν ∷ κ) (Body (mem R) l 0 δ)))))
       (lends_ref 𝓛 R (named 0) (ν ∷ κ) r l 0) $ await ! tt $ pick ! (λ δ. split ! $
       -- [the reference; the lender's part; ν's token; κ's token]
-      move ! (3 ∷ []) $ use1 𝓛 (‵ (flft κ (PosShare.left q)) ⊛ ‵ (flft κ (PosShare.right q))) (𝓛.lfts.lft_split κ q) $ split ! $
-      move ! (4 ∷ 0 ∷ []) $ use2 𝓛 (‵ (flft (ν ∷ κ) (PosShare.left q)) ⊛ raw (Rest 𝓛 ν (PosShare.left q))) (within_token 𝓛 ν κ (PosShare.left q)) $ split ! $
+      move ! (3 ∷ []) $ use1 𝓛 (‵ (flft κ (Share.left q)) ⊛ ‵ (flft κ (Share.right q))) (𝓛.lfts.lft_split κ q) $ split ! $
+      move ! (4 ∷ 0 ∷ []) $ use2 𝓛 (‵ (flft (ν ∷ κ) (Share.left q)) ⊛ raw (Rest 𝓛 ν (Share.left q))) (within_token 𝓛 ν κ (Share.left q)) $ split ! $
       -- [the token of ν ∷ κ; the way back; the other half of κ's token; the reference; the lender's part]
       at_once ! $ show ! (Lent ν r) δ $ nothing ! $ move ! (3 ∷ 0 ∷ []) $ join ! $ move ! (1 ∷ 0 ∷ []) $ join ! $ frame ! $ move ! (1 ∷ []) $ frame ! $ done !)
 
   pub comes_back : (ν : ℕ) (δ : GName) (w : Reader)
       → ent 𝓤 (sep 𝓤 (Tokens ν) (sep 𝓤 (Kept ν δ) (A.res δ (R.coded.code w))))
-      (H.⇛ (sep 𝓤 (A.lft κ q) (sep 𝓤 (sem 𝓛 (Cell (T'.lowered w))) (sem 𝓛 (R.own w (T'.lowered w ∷ []))))))
+      (H.⇛ (sep 𝓤 (A.lft κ q) (sep 𝓤 (sem 𝓛 (Cell (T'.lowered w))) (sem 𝓛 (R.own_val w (T'.lowered w ∷ []))))))
   comes_back ν δ w =
-      qed 𝓛 ((‵ (flft (ν ∷ κ) (PosShare.left q)) ⊛ ‵ (flft κ (PosShare.right q)) ⊛ ‵ ftrue) ∷
-      (raw (Rest 𝓛 ν (PosShare.left q)) ⊛ ‵ (flent (ν ∷ κ) (Body (mem R) l 0 δ))) ∷ ‵ (fres δ (R.coded.code w)) ∷ []) ∵
+      qed 𝓛 ((‵ (flft (ν ∷ κ) (Share.left q)) ⊛ ‵ (flft κ (Share.right q)) ⊛ ‵ ftrue) ∷
+      (raw (Rest 𝓛 ν (Share.left q)) ⊛ ‵ (flent (ν ∷ κ) (Body (mem R) l 0 δ))) ∷ ‵ (fres δ (R.coded.code w)) ∷ []) ∵
       updating ! $ split ! $ move ! (2 ∷ []) $ split ! $ move ! (2 ∷ 0 ∷ []) $
-      use2 𝓛 (later (‵ (fdead (ν ∷ κ)) ⊛ ‵ (flft κ (PosShare.left q)))) (within_end 𝓛 ν κ (PosShare.left q)) $ await ! tt $ split ! $
+      use2 𝓛 (later (‵ (fdead (ν ∷ κ)) ⊛ ‵ (flft κ (Share.left q)))) (within_end 𝓛 ν κ (Share.left q)) $ await ! tt $ split ! $
       -- [ν ∷ κ is over; a half of κ's token; the lender's part; the other half; the last value]
       move ! (0 ∷ 2 ∷ 4 ∷ []) $ use3 𝓛 (later (‵ ((mem R).own_at w l 0))) (ref_back 𝓛 R (ν ∷ κ) δ w l 0) $ await ! tt $
-      use1 𝓛 (‵ (Cell (T'.lowered w)) ⊛ ‵ (R.own w (T'.lowered w ∷ []))) (lies_out w) $ at_once ! $
+      use1 𝓛 (‵ (Cell (T'.lowered w)) ⊛ ‵ (R.own_val w (T'.lowered w ∷ []))) (lies_out w) $ at_once ! $
       move ! (2 ∷ []) $ split ! $ move ! (1 ∷ []) $ drop ! $ move ! (2 ∷ 0 ∷ []) $ use2 𝓛 (‵ (flft κ q)) (𝓛.lfts.lft_join κ q) $ frame ! $ done !

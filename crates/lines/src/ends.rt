@@ -26,6 +26,7 @@ pub enum Line {
 }
 
 // The place of the first line feed from `at` on, or the end.
+#[tactic(auto, using(crate::proofs::Search::search_again, crate::proofs::Search::search_here, crate::proofs::Search::search_end))]
 fn line_feed_from(s: &[u8], at: usize) -> usize
     requires { at ≤ length s.now }
     ensures first { result ≡ at + line_length (drop at s.now) }
@@ -40,6 +41,7 @@ fn line_feed_from(s: &[u8], at: usize) -> usize
 }
 
 // The line that begins at a place.
+#[tactic(auto, using(crate::proofs::Search::line_nothing, crate::proofs::Search::line_unended, crate::proofs::Search::line_too_long, crate::proofs::Search::line_whole))]
 pub(crate) fn line_at(s: &[u8], at: usize) -> Line
     ensures { result ≡ line_at s.now at }
 {

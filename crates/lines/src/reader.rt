@@ -58,6 +58,7 @@ fn walked_over<'a>(log: &'a [u8], n: usize) -> &'a [u8]
 
 // What is left of a log behind its first n lines, its empty end where it has fewer. A log has no more lines than bytes, so that no n makes
 // the walk longer.
+#[tactic(auto, using(crate::proofs::Behind::behind_past))]
 pub fn behind_lines<'a>(log: &'a [u8], n: usize) -> &'a [u8]
     ensures { result.now ≡ behind_lines n log.now }
 {

@@ -1,11 +1,11 @@
 -- The validity check: what its parts find, one after the other, together is validity.
 use Prim.Native.Nat.{ℕ}
 use mathlib.Core.Path.{◌≡◌, refl, sym, ap, ◌∙◌}
-use mathlib.Core.Bool.{Bool, true, false, not, ◌&&◌, and-true, true≢false}
+use mathlib.Core.Bool.{Bool, true, false, ◌&&◌, and-true, true≢false}
 use mathlib.Core.List.{List, map}
 use lib.Dec.{eqb}
 use lib.ListN.{length, length-map}
-use borrow.Author.Tests.{eq-eqb, not-true, not-false}
+use borrow.Author.Tests.{eq-eqb}
 use Rattle.rules.specs.declared.Table.{Table}
 use Rattle.rules.specs.Numbers.{task_room, region_room, queue_room, store_size, timer_room}
 use Rattle.rules.specs.Words.{all}
@@ -13,7 +13,7 @@ use Rattle.rules.specs.Regions.{held}
 use Rattle.rules.specs.Circles.{no_circle}
 use Rattle.rules.specs.Tables.{states_of, urgencies_of, closed_of}
 use Rattle.rules.specs.Validity.{shaped, counts_in_range, criteria_in_range, timers_right, valid}
-use Rattle.rules.proofs.Bools.{and_left, and_right, both, shown}
+use Rattle.rules.proofs.Bools.{and_left, and_right, both}
 use Rattle.rules.specs.Election.{elected_by}
 use Rattle.rules.proofs.Election.{election_by}
 use Rattle.rules.specs.Checks.{tasks_right, regions_right, entries_everywhere, holder_right, open_holders_fit, awaits_fit, queues_right}
@@ -92,11 +92,11 @@ module _ (t : Table) (long : Lengths t) where
         long.opened_long,
       )
 
-  refuted : (b : Bool) → (valid t ≡ true → b ≡ true) → not b ≡ true → false ≡ valid t
+  refuted : (b : Bool) → (valid t ≡ true → b ≡ true) → b ≡ false → false ≡ valid t
   refuted b f n = go (valid t) refl
     where
       go : (k : Bool) → valid t ≡ k → false ≡ valid t
-      go true e = absurd (true≢false (sym (f e) ∙ not-true b n))
+      go true e = absurd (true≢false (sym (f e) ∙ n))
       go false e = sym e
 
   module _ {v : ℕ} {fit counted : Bool} (r : Regions t v fit counted) where
@@ -104,7 +104,7 @@ module _ (t : Table) (long : Lengths t) where
     one : valid t ≡ true → v ≡ held (closed_of t)
     one k = r.bits ∙ held_right t.regions t.opened t.holder (parts_of t k).regions
 
-    pub regions_wrong : not (fit && counted) ≡ true → false ≡ valid t
+    pub regions_wrong : (fit && counted) ≡ false → false ≡ valid t
     regions_wrong =
         refuted (fit && counted)
         (λ k.
@@ -112,13 +112,13 @@ module _ (t : Table) (long : Lengths t) where
         (r.counted_is ∙ (parts_of t k).entries))
 
     module _ {waiting hold : Bool} (w : Waiting t waiting hold) where
-      pub waiting_wrong : not (waiting && hold) ≡ true → false ≡ valid t
+      pub waiting_wrong : (waiting && hold) ≡ false → false ≡ valid t
       waiting_wrong =
           refuted (waiting && hold)
           (λ k. both (w.waiting_is ∙ both (parts_of t k).awaits (parts_of t k).no_circle) (w.hold_is ∙ (parts_of t k).open_holders))
 
       module _ {who : ℕ} {ready : Bool} (e : Elected t v who ready) where
-        pub elected_wrong : not (ready && eqb t.elected who) ≡ true → false ≡ valid t
+        pub elected_wrong : (ready && eqb t.elected who) ≡ false → false ≡ valid t
         elected_wrong =
             refuted (ready && eqb t.elected who)
             (λ k.
@@ -126,7 +126,7 @@ module _ (t : Table) (long : Lengths t) where
             (rw (e.who_is, one k, election_by) (eq-eqb _ _ (parts_of t k).elected)))
 
         module _ {counts stores clock : Bool} (l : Loops t counts stores clock) where
-          pub loops_wrong : not (counts && (stores && clock)) ≡ true → false ≡ valid t
+          pub loops_wrong : (counts && (stores && clock)) ≡ false → false ≡ valid t
           loops_wrong =
               refuted (counts && (stores && clock))
               (λ k.
@@ -162,16 +162,12 @@ module _ (t : Table) (long : Lengths t) where
                 )
                 (simp and-true)
 
-            pub check_is : not (fit && counted) ≡ false → not (waiting && hold) ≡ false → not (ready && eqb t.elected who) ≡ false
-                → not (counts && (stores && clock)) ≡ false
+            pub check_is : (fit && counted) ≡ true → (waiting && hold) ≡ true → (ready && eqb t.elected who) ≡ true
+                → (counts && (stores && clock)) ≡ true
                 → (columns && criteria) ≡ valid t
             unfolding awaited circles
-            check_is i m j k =
-                let regions = not-false (fit && counted) i in
-                let waits = not-false (waiting && hold) m in
+            check_is regions waits elected loops =
                 let both-wait = sym w.waiting_is ∙ and_left waiting hold waits in
-                let elected = not-false (ready && eqb t.elected who) j in
-                let loops = not-false (counts && (stores && clock)) k in
                 let after-counts = and_right counts (stores && clock) loops in
                 let right : regions_right t.regions (or_all 0 (closed_of t)) t.opened t.holder ≡ true =
                 ap (λ x. regions_right t.regions x t.opened t.holder) (sym r.bits) ∙ sym r.fit_is ∙ and_left fit counted regions in
