@@ -1,7 +1,6 @@
 -- Everything in a valid table fits its bytes, if the elements do.
 use Prim.Native.Nat.{ℕ, zero, suc, ◌^◌, ◌<◌, ◌≤◌}
 use mathlib.Core.Path.{◌≡◌, refl}
-use mathlib.Core.Logic.{⊎_elim}
 use mathlib.Core.Bool.{Bool, true, false, ◌&&◌, false≢true}
 use mathlib.Core.List.{List, [], ◌∷◌}
 use native.Mathlib.Omega.{arith}
@@ -16,7 +15,7 @@ use Rattle.rules.specs.Words.{is_zero, every}
 use Rattle.rules.specs.Timers.{is_armed}
 use Rattle.rules.specs.Tables.{bound_of, length_of}
 use Rattle.rules.specs.Validity.{shaped, counts_in_range, bound_in_range, criterion_in_range, criteria_in_range, state_right, timer_right, timers_right}
-use Rattle.rules.proofs.Bools.{given, shown, and_left, and_right, or_cases}
+use Rattle.rules.proofs.Bools.{given, shown, and_left, and_right}
 use Rattle.rules.proofs.Lists.{every_cons, every_nil}
 use Rattle.rules.proofs.Counts.{below_at}
 use Rattle.theorems.proofs.ArmedTimers.{every_kept}

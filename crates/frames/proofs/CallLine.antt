@@ -1,14 +1,14 @@
 -- Laws of a call line at a place: its digits in two parts, and the tests that the code makes.
 use Prim.Native.Nat.{ℕ, zero, suc, ◌+◌, ◌<◌, ◌≤◌}
 use mathlib.Core.Path.{◌≡◌, refl, sym, ◌∙◌}
-use mathlib.Core.Bool.{Bool, true, false, not, ◌&&◌, and_assoc}
+use mathlib.Core.Bool.{Bool, true, false, ◌&&◌, and_assoc}
 use mathlib.Core.List.{List, [], ◌∷◌}
 use native.Mathlib.Omega.{arith}
 use native.Mathlib.Nat.{le_of_suc-le-suc}
 use lib.Dec.{leb}
 use lib.ListN.{length, take, drop, get_or, length-drop}
 use lib.Seq.{take_all}
-use borrow.Author.Tests.{eq-eqb, ne_eqb, le-leb, lt-leb, leb-true, not-true, not-false}
+use borrow.Author.Tests.{eq-eqb, ne_eqb, le-leb, lt-leb, leb-true}
 use Rattle.rules.specs.Words.{every}
 use Rattle.rules.proofs.Bools.{and_left}
 use Rattle.digits.specs.Digits.{is_digit}
@@ -65,14 +65,14 @@ module _ (input : List ℕ) (at : ℕ) where
   -- ---- what is asked for there
 
   module _ (r : Bool) (e : r ≡ call_line_at input at) where
-    pub request_none : (q : Request) → not r ≡ true → q ≡ no_request → q ≡ request_at input at
+    pub request_none : (q : Request) → r ≡ false → q ≡ no_request → q ≡ request_at input at
     unfolding request_at
-    request_none q n k = simp (← e, not-true r n) k
+    request_none q n k = simp (← e, n) k
 
-    pub request_some : (c : Call) → not r ≡ false → c ≡ call_in (part at (at + call_length) input) → request_for c ≡ request_at input at
+    pub request_some : (c : Call) → r ≡ true → c ≡ call_in (part at (at + call_length) input) → request_for c ≡ request_at input at
     unfolding request_at
-    request_some c n k = simp (← e, not-false r n, k)
+    request_some c n k = simp (← e, n, k)
 
-    pub request_room : not r ≡ false → at + suc call_length ≤ length input
+    pub request_room : r ≡ true → at + suc call_length ≤ length input
     unfolding call_line_at
-    request_room n = leb-true (at + suc call_length) (length input) (and_left (leb (at + suc call_length) (length input)) _ (sym e ∙ not-false r n))
+    request_room n = leb-true (at + suc call_length) (length input) (and_left (leb (at + suc call_length) (length input)) _ (sym e ∙ n))
