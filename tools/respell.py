@@ -26,7 +26,7 @@ DECLARED = re.compile(r"^ *(?:(?:abbrev|unfoldable|pub|record|data|rules?|rulese
 
 
 def snake(word):
-    out = re.sub(r"(?<=[a-z0-9])([A-Z])", lambda m: "_" + m.group(1).lower(), word) if CAMEL.search(word) else word
+    out = re.sub(r"(?<=[a-z0-9A-Z])([A-Z])(?=[a-z])|(?<=[a-z0-9])([A-Z])", lambda m: "_" + m.group(0).lower(), word) if CAMEL.search(word) else word
     return re.sub(r"(?<=[a-z0-9'])-(?=[a-z0-9])", "_", out)
 
 

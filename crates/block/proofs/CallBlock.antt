@@ -26,7 +26,7 @@ use Rattle.tables.specs.Fronts.{whole, front_of, front_done}
 use Rattle.packing.specs.Answers.{answer_number}
 use Rattle.packing.proofs.RoundTrips.{is_byte}
 use Rattle.layout.specs.Layout.{block_size, unpacked, packed, unused_zero, is_table}
-use Rattle.layout.specs.Calls.{not_aTable_number, call_block}
+use Rattle.layout.specs.Calls.{not_a_table_number, call_block}
 use Rattle.layout.proofs.Back.{bytes_back}
 use Rattle.layout.proofs.Sizes.{Sized, unpacked_sized}
 use Rattle.layout.proofs.Tables.{ten_is, small_block, used_block, looked_at}
@@ -76,14 +76,14 @@ abbrev Comes : List ℕ → Call → ℕ → List ℕ → Type 0
 Comes block k n after = (n ≡ (call_block block k).answer) × (after ≡ (call_block block k).block)
 
 module _ (block : List ℕ) (k : Call) where
-  call_untouched : is_table block ≡ false → Comes block k not_aTable_number block
+  call_untouched : is_table block ≡ false → Comes block k not_a_table_number block
   unfolding call_block
   call_untouched h = rw h (ten_is, refl)
 
-  pub call_small : (length block ≡ block_size → ⊥) → Comes block k not_aTable_number block
+  pub call_small : (length block ≡ block_size → ⊥) → Comes block k not_a_table_number block
   call_small n = call_untouched (small_block block n)
 
-  pub call_used : length block ≡ block_size → unused_zero block ≡ false → Comes block k not_aTable_number block
+  pub call_used : length block ≡ block_size → unused_zero block ≡ false → Comes block k not_a_table_number block
   call_used size u = call_untouched (used_block block size u)
 
 -- what is known behind the call on the front and the store: what the block was found to be, the table that was read from it, what the call gave,

@@ -8,14 +8,14 @@ use Rattle.rules.specs.declared.Done.{Done}
 use Rattle.rules.specs.Fresh.{fresh}
 use Rattle.packing.specs.Answers.{answer_number}
 use Rattle.layout.specs.Layout.{block_size, packed}
-use Rattle.layout.specs.Calls.{Stored, not_aTable_number, fresh_block}
+use Rattle.layout.specs.Calls.{Stored, not_a_table_number, fresh_block}
 use Rattle.layout.proofs.Tables.{ten_is}
 
 module _ (block : List ℕ) (tasks regions queues : ℕ) (priorities bounds marks : List ℕ) where
   abbrev made : Stored
   made = fresh_block block tasks regions queues priorities bounds marks
 
-  pub fresh_refused : (length block ≡ block_size → ⊥) → (not_aTable_number ≡ made.answer) × (block ≡ made.block)
+  pub fresh_refused : (length block ≡ block_size → ⊥) → (not_a_table_number ≡ made.answer) × (block ≡ made.block)
   unfolding fresh_block
   fresh_refused n = rw (ne_eqb (length block) block_size n) (ten_is, refl)
 

@@ -2,7 +2,7 @@
 ghost use Rattle.std.specs.Prelude.{◌≡◌, cond};
 ghost use Rattle.rules.specs.Validity.{valid};
 ghost use Rattle.rules.specs.Answers.{replied};
-ghost use Rattle.layout.specs.Calls.{query_or_ten, query_block, not_aTable};
+ghost use Rattle.layout.specs.Calls.{query_or_ten, query_block, not_a_table};
 
 use executive::{arrived, empty, full, priority, state};
 use layout::{SIZE, unpack, unused_zero};
@@ -12,7 +12,7 @@ use validity::is_valid;
 
 // What a number above 4 gets: 10 comes before 11.
 fn unknown_query(t: Table) -> Answer
-    ensures { result ≡ cond (valid t) (replied t 11 0) not_aTable }
+    ensures { result ≡ cond (valid t) (replied t 11 0) not_a_table }
 {
     if is_valid(t) {
         return Answer {

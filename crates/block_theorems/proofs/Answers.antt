@@ -31,7 +31,7 @@ use Rattle.theorems.proofs.Kept.{valid_kept}
 use Rattle.packing.proofs.RoundTrips.{fits}
 use Rattle.layout.specs.Layout.{block_size, unpacked, is_table}
 use Rattle.packing.specs.Answers.{answer_number}
-use Rattle.layout.specs.Calls.{not_aTable, fresh_block, call_block, query, query_block}
+use Rattle.layout.specs.Calls.{not_a_table, fresh_block, call_block, query, query_block}
 use Rattle.block_theorems.specs.Ranges.{byte_end, word_end, are_bytes, elements_in_range, answer_in_range}
 use Rattle.block_theorems.specs.Answers.{answer_in, AnswerReadBack, OneNumber, AnswersRead}
 use Rattle.block_theorems.proofs.Fitting.{Fitting, elected_fits, fitting}
@@ -164,46 +164,46 @@ fresh_fits tasks regions queues priorities bounds marks = go (configuration_in_r
     go true e = rw e refl
     go false e = rw e refl
 
-pub damaged_fits : answer_in_range not_aTable ≡ true
+pub damaged_fits : answer_in_range not_a_table ≡ true
 unfolding answer_in_range all
 damaged_fits = refl
 
 -- ---- so they are read back
 
 module _ (block : List ℕ) (small : are_bytes block ≡ true) where
-  pub call_read : (c : Call) → answer_in (call_block block c).answer ≡ cond (is_table block) (step (unpacked block) c).answer not_aTable
+  pub call_read : (c : Call) → answer_in (call_block block c).answer ≡ cond (is_table block) (step (unpacked block) c).answer not_a_table
   unfolding call_block
   call_read c = go (is_table block) refl
     where
-      go : (b : Bool) → is_table block ≡ b → answer_in (call_block block c).answer ≡ cond (is_table block) (step (unpacked block) c).answer not_aTable
+      go : (b : Bool) → is_table block ≡ b → answer_in (call_block block c).answer ≡ cond (is_table block) (step (unpacked block) c).answer not_a_table
       go true e =
           let u = unpack_then_pack block small e in
           rw e (answer_read_back _ (step_fits (unpacked block) u.right u.elements c))
-      go false e = rw e (answer_read_back not_aTable damaged_fits)
+      go false e = rw e (answer_read_back not_a_table damaged_fits)
 
   query_read : (number caller a b : ℕ)
-      → answer_in (query_block block number caller a b) ≡ cond (is_table block) (query (unpacked block) number caller a b) not_aTable
+      → answer_in (query_block block number caller a b) ≡ cond (is_table block) (query (unpacked block) number caller a b) not_a_table
   unfolding query_block
   query_read number caller a b = go (is_table block) refl
     where
       go : (x : Bool) → is_table block ≡ x
-          → answer_in (query_block block number caller a b) ≡ cond (is_table block) (query (unpacked block) number caller a b) not_aTable
+          → answer_in (query_block block number caller a b) ≡ cond (is_table block) (query (unpacked block) number caller a b) not_a_table
       go true e =
           let u = unpack_then_pack block small e in
           rw e (answer_read_back _ (query_fits (unpacked block) u.right u.elements number caller a b))
-      go false e = rw e (answer_read_back not_aTable damaged_fits)
+      go false e = rw e (answer_read_back not_a_table damaged_fits)
 
 fresh_read : (block : List ℕ) (tasks regions queues : ℕ) (priorities bounds marks : List ℕ)
     → answer_in (fresh_block block tasks regions queues priorities bounds marks).answer
-    ≡ cond (eqb (length block) block_size) (fresh tasks regions queues priorities bounds marks).answer not_aTable
+    ≡ cond (eqb (length block) block_size) (fresh tasks regions queues priorities bounds marks).answer not_a_table
 unfolding fresh_block
 fresh_read block tasks regions queues priorities bounds marks = go (eqb (length block) block_size) refl
   where
     go : (x : Bool) → eqb (length block) block_size ≡ x
         → answer_in (fresh_block block tasks regions queues priorities bounds marks).answer
-        ≡ cond (eqb (length block) block_size) (fresh tasks regions queues priorities bounds marks).answer not_aTable
+        ≡ cond (eqb (length block) block_size) (fresh tasks regions queues priorities bounds marks).answer not_a_table
     go true e = rw e (answer_read_back _ (fresh_fits tasks regions queues priorities bounds marks))
-    go false e = rw e (answer_read_back not_aTable damaged_fits)
+    go false e = rw e (answer_read_back not_a_table damaged_fits)
 
 pub answers_read : AnswersRead
 answers_read =

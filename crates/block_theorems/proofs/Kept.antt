@@ -26,7 +26,7 @@ use Rattle.packing.specs.Bytes.{bytes, spread}
 use Rattle.packing.specs.Timers.{timer_bytes, timers_bytes}
 use Rattle.layout.specs.Layout.{block_size, unpacked, packed, is_table}
 use Rattle.packing.specs.Answers.{answer_number}
-use Rattle.layout.specs.Calls.{Stored, stored, not_aTable, untouched, fresh_block, call_block}
+use Rattle.layout.specs.Calls.{Stored, stored, not_a_table, untouched, fresh_block, call_block}
 use Rattle.block_theorems.specs.Ranges.{word_end, are_bytes, elements_in_range, call_in_range}
 use Rattle.block_theorems.specs.Answers.{answer_in}
 use Rattle.block_theorems.specs.Packed.{Packs}
@@ -73,7 +73,7 @@ left block c e = rw e
 pub damaged_block : DamagedBlock
 damaged_block block c e =
     let s = left block c e in
-    (ap (λ s. s.block) s, ap (λ s. answer_in s.answer) s ∙ answer_read_back not_aTable damaged_fits)
+    (ap (λ s. s.block) s, ap (λ s. answer_in s.answer) s ∙ answer_read_back not_a_table damaged_fits)
 
 pub untouched_block : UntouchedBlock
 untouched_block block c small l = go (is_table block) refl

@@ -6,7 +6,7 @@ use Rattle.rules.specs.Fresh.{fresh}
 use Rattle.rules.specs.Step.{step}
 use Rattle.layout.specs.Layout.{block_size, unpacked, is_table}
 use Rattle.packing.specs.Answers.{answer_number}
-use Rattle.layout.specs.Calls.{not_aTable, fresh_block, call_block, query, query_block}
+use Rattle.layout.specs.Calls.{not_a_table, fresh_block, call_block, query, query_block}
 use Rattle.block_theorems.specs.Ranges.{are_bytes, answer_in_range}
 
 -- ---- an answer's number taken apart: bits 0 to 7, 8 to 15, 16 to 23, 24 to 31, and the upper half
@@ -40,9 +40,9 @@ OneNumber = (r s : Answer) → answer_in_range r ≡ true → answer_in_range s 
 
 pub record AnswersRead : Type 0 where
   pub call : (block : List ℕ) (c : Call) → are_bytes block ≡ true
-      → answer_in (call_block block c).answer ≡ cond (is_table block) (step (unpacked block) c).answer not_aTable
+      → answer_in (call_block block c).answer ≡ cond (is_table block) (step (unpacked block) c).answer not_a_table
   pub query : (block : List ℕ) (number caller a b : ℕ) → are_bytes block ≡ true
-      → answer_in (query_block block number caller a b) ≡ cond (is_table block) (query (unpacked block) number caller a b) not_aTable
+      → answer_in (query_block block number caller a b) ≡ cond (is_table block) (query (unpacked block) number caller a b) not_a_table
   pub fresh_block : (block : List ℕ) (tasks regions queues : ℕ) (priorities bounds marks : List ℕ)
       → answer_in (fresh_block block tasks regions queues priorities bounds marks).answer
-      ≡ cond (eqb (length block) block_size) (fresh tasks regions queues priorities bounds marks).answer not_aTable
+      ≡ cond (eqb (length block) block_size) (fresh tasks regions queues priorities bounds marks).answer not_a_table

@@ -4,7 +4,7 @@ use Rattle.rules.specs.declared.Call.{Call}
 use Rattle.rules.specs.Fresh.{fresh_table}
 use Rattle.rules.specs.Step.{step}
 use Rattle.layout.specs.Layout.{block_size, unpacked, is_table}
-use Rattle.layout.specs.Calls.{Stored, not_aTable, fresh_block, call_block}
+use Rattle.layout.specs.Calls.{Stored, not_a_table, fresh_block, call_block}
 use Rattle.block_theorems.specs.Ranges.{are_bytes, call_in_range}
 use Rattle.block_theorems.specs.Answers.{status_in, answer_in}
 
@@ -20,7 +20,7 @@ KeptBlock = (block : List ℕ) (c : Call) → are_bytes block ≡ true → is_ta
 -- "A block of wrong size or not a valid table gets 10 and isn't touched"
 abbrev pub DamagedBlock : Type 0
 DamagedBlock =
-    (block : List ℕ) (c : Call) → is_table block ≡ false → ((call_block block c).block ≡ block) × (answer_in (call_block block c).answer ≡ not_aTable)
+    (block : List ℕ) (c : Call) → is_table block ≡ false → ((call_block block c).block ≡ block) × (answer_in (call_block block c).answer ≡ not_a_table)
 
 -- "Every refusal leaves the table as it came in": the bytes too
 abbrev pub UntouchedBlock : Type 0

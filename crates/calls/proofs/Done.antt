@@ -1,5 +1,5 @@
 -- What the code builds for each kind of call, of what its callees give it, is the step of the rules, if the call is accepted.
-use Rattle.std.proofs.Common.{◌≡◌, ℕ, zero, suc, ◌+◌, ◌-◌, ◌%◌, ◌<◌, ◌≤◌, Bool, true, false, cond, not, ◌&&◌, ◌||◌, eqb, ltb, ◌≢◌, List, [], ◌∷◌, map, length, get_or, set, sym, refl, ap, ◌∙◌, ap₂, mod-eq_of_lt, add-one, arith, ltb-false, ltb-true, ne_eqb, leb-false}
+use Rattle.std.proofs.Common.{◌≡◌, ℕ, suc, ◌+◌, ◌-◌, ◌%◌, ◌<◌, ◌≤◌, Bool, true, false, cond, not, ◌&&◌, ◌||◌, eqb, ltb, ◌≢◌, List, map, length, get_or, set, sym, refl, ap, ◌∙◌, ap₂, mod-eq_of_lt, add-one, arith, ltb-false, ltb-true, ne_eqb, leb-false}
 use borrow.Author.Tests.{not-false}
 use Rattle.rules.specs.declared.Task.{Task}
 use Rattle.rules.specs.declared.Region.{Region}

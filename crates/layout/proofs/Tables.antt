@@ -9,10 +9,10 @@ use Rattle.rules.specs.Words.{all}
 use Rattle.rules.specs.Validity.{valid}
 use Rattle.packing.specs.Answers.{answer_number}
 use Rattle.layout.specs.Layout.{block_size, unpacked, unused_zero, is_table}
-use Rattle.layout.specs.Calls.{not_aTable, not_aTable_number}
+use Rattle.layout.specs.Calls.{not_a_table, not_a_table_number}
 
 -- the number that stands for 10
-pub ten_is : not_aTable_number ≡ answer_number not_aTable
+pub ten_is : not_a_table_number ≡ answer_number not_a_table
 unfolding answer_number
 ten_is = refl
 

@@ -23,15 +23,15 @@ abbrev pub stored : Done → Stored
 stored d = record { block = packed d.table; answer = answer_number d.answer }
 
 -- "gets 10 and isn't touched"
-abbrev pub not_aTable : Answer
-not_aTable = record { status = 10; value = 0; key = 0; elected = nobody; displaced = nobody }
+abbrev pub not_a_table : Answer
+not_a_table = record { status = 10; value = 0; key = 0; elected = nobody; displaced = nobody }
 
 -- its number: the status, and nobody for the elected task and for the one displaced
-abbrev pub not_aTable_number : ℕ
-not_aTable_number = 10 + 256 * nobody + 16777216 * nobody
+abbrev pub not_a_table_number : ℕ
+not_a_table_number = 10 + 256 * nobody + 16777216 * nobody
 
 abbrev pub untouched : List ℕ → Stored
-untouched block = record { block = block; answer = answer_number not_aTable }
+untouched block = record { block = block; answer = answer_number not_a_table }
 
 -- a call by its five numbers
 abbrev pub call_of : ℕ → ℕ → ℕ → ℕ → ℕ → Call
@@ -53,8 +53,8 @@ query t number caller a b =
 
 -- a query of a table that may not be valid: 10 comes first
 unfoldable pub query_or_ten : Table → ℕ → ℕ → ℕ → ℕ → Answer
-query_or_ten t number caller a b = cond (valid t) (query t number caller a b) not_aTable
+query_or_ten t number caller a b = cond (valid t) (query t number caller a b) not_a_table
 
 unfoldable pub query_block : List ℕ → ℕ → ℕ → ℕ → ℕ → ℕ
 query_block block number caller a b =
-    answer_number (cond (is_table block) (query (unpacked block) number caller a b) not_aTable)
+    answer_number (cond (is_table block) (query (unpacked block) number caller a b) not_a_table)

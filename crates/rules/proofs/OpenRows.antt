@@ -84,8 +84,8 @@ borrow_row = computed (open_right borrowing) refl
 
 -- Task 1, of 10, waits for what task 3, of 30, holds; this waits for what task 0, of 40, holds. So task 0 has 10 through task 3, and not only 30:
 -- it is elected though task 2, of 20, is ready. At each EXIT the urgency goes where the region goes.
-abbrev through_aChain : List Run
-through_aChain =
+abbrev through_a_chain : List Run
+through_a_chain =
     run
     (says 0 ENTER 0 0 0 0 0
     ∷ says 0 START 3 0 0 0 3
@@ -99,9 +99,9 @@ through_aChain =
     ∷ [])
     ∷ []
 
-pub chain_row : open_right through_aChain step ≡ true
+pub chain_row : open_right through_a_chain step ≡ true
 unfolding computing shared open_right
-chain_row = computed (open_right through_aChain) refl
+chain_row = computed (open_right through_a_chain) refl
 
 -- ---- "EXIT at count 0 gives it to its most urgent waiting task (urgency as below), lowest number of equals, which holds it with count 1 and
 -- becomes ready."
