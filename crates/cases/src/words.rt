@@ -1,8 +1,19 @@
 // The words of a list's line that are numbers.
-ghost use Rattle.std.specs.Prelude.{◌≡◌, ◌≤◌, min};
+ghost use Rattle.std.specs.Prelude.{◌≤◌, length};
 
 use digits::decimal_of;
 use tables::lesser;
+
+// The place of the first such byte from `from` on and before `to`, or `to` where there is none.
+pub(crate) fn find(text: &[u8], from: usize, to: usize, byte: u8) -> usize
+    requires { (from ≤ to) × (to ≤ length text.now) }
+    ensures { (from ≤ result) × (result ≤ to) }
+{
+    match text[from..to].iter().position(|b| *b == byte) {
+        Some(n) => from + n,
+        None => to,
+    }
+}
 
 // Digits come before letters.
 pub(crate) fn is_number(word: &[u8]) -> bool {
