@@ -33,14 +33,9 @@ enum Reason {
 }
 
 // Reads once behind the bytes that are kept, and answers the lines that have ended; where the input has ended, what is kept gets its
-// answer. A read that fails gives nothing, as at the end of the input. Only with room for an answer line to every byte is each ended line answered in its turn, so that room is asked for.
-fn round_of(
-    rt: HostRuntime,
-    s: Standing,
-    kept: usize,
-    buffer: &mut [u8],
-    out: &mut [u8],
-) -> Round
+// answer. A read that fails is taken for the end of the input. Only with room for an answer line to every byte is each ended line answered
+// in its turn, so that room is asked for.
+fn round_of(rt: HostRuntime, s: Standing, kept: usize, buffer: &mut [u8], out: &mut [u8]) -> Round
     requires { (kept ≤ most_kept) × (most_kept < length buffer.old) × (answer_length * length buffer.old ≤ length out.old) }
     ensures { RoundDid s (take kept buffer.old) result buffer.new out.new }
 {
