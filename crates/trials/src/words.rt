@@ -1,5 +1,5 @@
 // The words of a line: numbers, and names that stand for numbers.
-ghost use Rattle.std.specs.Prelude.{◌≤◌, length};
+ghost use Rattle.std.specs.Prelude.{◌≡◌, ◌≢◌, ℕ, ◌<◌, ◌≤◌, length, slice_index};
 
 use crate::say;
 use digits::decimal_of;
@@ -11,12 +11,16 @@ const NOTHING: u32 = 4294967295;
 // The place of the first such byte from `from` on and before `to`, or `to` where there is none.
 pub(crate) fn find(text: &[u8], from: usize, to: usize, byte: u8) -> usize
     requires { (from ≤ to) × (to ≤ length text.now) }
-    ensures { (from ≤ result) × (result ≤ to) }
+    ensures within { (from ≤ result) × (result ≤ to) }
+    ensures before { (k : ℕ) → from ≤ k → k < result → slice_index text.now k ≢ byte }
+    ensures found { result < to → slice_index text.now result ≡ byte }
 {
-    match text[from..to].iter().position(|b| *b == byte) {
-        Some(n) => from + n,
-        None => to,
+    for i in from..to {
+        if text[i] == byte {
+            return i;
+        }
     }
+    to
 }
 
 // Digits come before letters.
