@@ -5,12 +5,12 @@ use mathlib.Core.Bool.{Bool, true, false, cond, ◌||◌}
 use mathlib.Core.List.{List}
 use native.Mathlib.Omega.{arith}
 use lib.Dec.{eqb}
-use lib.ListN.{length}
+use lib.ListN.{length, get_or, replicate, length-replicate}
 use Rattle.rules.specs.declared.Table.{Table}
 use Rattle.rules.specs.declared.Call.{Call}
 use Rattle.rules.specs.declared.Done.{Done}
 use Rattle.rules.specs.Numbers.{store_size, SEND, RETRIEVE}
-use Rattle.rules.specs.Words.{is_zero, every}
+use Rattle.rules.specs.Words.{is_zero}
 use Rattle.rules.specs.Events.{met}
 use Rattle.rules.specs.Regions.{held_by_other}
 use Rattle.rules.specs.Tables.{task_of, region_of}
@@ -21,13 +21,16 @@ use Rattle.rules.specs.Effects.{enter, hands_on, exit, effect}
 use Rattle.rules.specs.Step.{step}
 use Rattle.rules.proofs.Effects.{each_effect, either_effect}
 use Rattle.calls.proofs.Together.{step_contents}
+use Rattle.tables.specs.declared.front.Front.{Front}
 use Rattle.tables.specs.declared.front.FrontDone.{FrontDone}
 use Rattle.tables.specs.Fronts.{whole, front_of, front_done}
 use Rattle.packing.specs.Answers.{answer_number}
-use Rattle.packing.proofs.RoundTrips.{is_byte}
-use Rattle.layout.specs.Layout.{block_size, unpacked, packed, unused_zero, is_table}
-use Rattle.layout.specs.Calls.{not_a_table_number, call_block}
-use Rattle.layout.proofs.Back.{bytes_back}
+use Rattle.packing.specs.Bytes.{word_width, taken}
+use Rattle.layout.specs.Layout.{element_place, criterion_place, block_size, unpacked, packed, unused_zero, is_table}
+use Rattle.layout.specs.Calls.{not_a_table_number, stored, untouched, call_block}
+use Rattle.layout.proofs.Back.{all_bytes, bytes_back}
+use Rattle.layout.proofs.Reading.{parts_read}
+use Rattle.layout.specs.Fronts.{front_taken}
 use Rattle.layout.proofs.Sizes.{Sized, unpacked_sized}
 use Rattle.layout.proofs.Tables.{ten_is, small_block, used_block, looked_at}
 use Rattle.layout.specs.Wholes.{whole_put, front_packed}
@@ -86,84 +89,86 @@ module _ (block : List ℕ) (k : Call) where
   pub call_used : length block ≡ block_size → unused_zero block ≡ false → Comes block k not_a_table_number block
   call_used size u = call_untouched (used_block block size u)
 
--- what is known behind the call on the front and the store: what the block was found to be, the table that was read from it, what the call gave,
--- the store that it left, and the number of its answer
-pub record Called (block : List ℕ) (k : Call) : Type 0 where
-  pub size : length block ≡ block_size
-  pub unused : unused_zero block ≡ true
-  pub small : every is_byte block ≡ true
-  pub table : Table
-  pub table_is : table ≡ unpacked block
-  pub done : FrontDone
-  pub done_is : done ≡ front_done (step table k)
-  pub elements : List ℕ
-  pub elements_are : elements ≡ (step table k).table.element
-  pub criteria : List ℕ
-  pub criteria_are : criteria ≡ (step table k).table.criterion
-  pub number : ℕ
-  pub number_is : number ≡ answer_number done.answer
-
-module _ {block : List ℕ} {k : Call} (h : Called block k) where
+-- behind the call on the front and the store: the block has its size and its unused bytes are 0; the front and the store are read from it, the
+-- call gives `d` and leaves another store, and `n` is the number of its answer
+module _ (block : List ℕ) (k : Call) (unused : Bool) (f : Front) (es cs es' cs' : List ℕ) (d : FrontDone) (n : ℕ)
+    (size : length block ≡ block_size) (unused_is : unused ≡ unused_zero block) (zero_there : unused ≡ true)
+    (small : (i : ℕ) → get_or block i 0 < 256) (front_is : f ≡ front_taken block)
+    (es_is : es ≡ taken word_width element_place block (replicate store_size 0))
+    (cs_is : cs ≡ taken 1 criterion_place block (replicate store_size 0))
+    (done_is : d ≡ front_done (step (whole f es cs) k))
+    (es_after : es' ≡ (step (whole f es cs) k).table.element) (cs_after : cs' ≡ (step (whole f es cs) k).table.criterion)
+    (number_is : n ≡ answer_number d.answer) where
   abbrev after : Done
   after = step (unpacked block) k
 
   after_sized : Sized after.table
   after_sized = step_sized (unpacked block) k (unpacked_sized block)
 
-  pub store_long : (length h.elements ≡ store_size) × (length h.criteria ≡ store_size)
-  store_long =
-      rw (h.elements_are, h.criteria_are, h.table_is) (after_sized.element_long, after_sized.criterion_long)
+  table_is : whole f es cs ≡ unpacked block
+  table_is =
+      let zeros = length-replicate {A = ℕ} store_size 0 in
+      parts_read block size f front_is _ es zeros es_is _ cs zeros cs_is
 
-  same_answer_lem : h.done.answer ≡ after.answer
-  same_answer_lem = ap (λ x. x.answer) h.done_is ∙ ap (λ x. (step x k).answer) h.table_is
+  looked : is_table block ≡ valid (unpacked block)
+  looked = looked_at block size (sym unused_is ∙ zero_there)
 
-  answered : h.number ≡ answer_number after.answer
-  answered = h.number_is ∙ ap answer_number same_answer_lem
+  same_answer : d.answer ≡ after.answer
+  same_answer = ap (λ x. x.answer) done_is ∙ ap (λ x. (step x k).answer) table_is
 
-  accepted : h.done.answer.status < 10 → valid (unpacked block) ≡ true
+  answered : n ≡ answer_number after.answer
+  answered = number_is ∙ ap answer_number same_answer
+
+  damaged : valid (unpacked block) ≡ false → after ≡ refused (unpacked block) 10
+  damaged = step_damaged (unpacked block) k
+
+  -- the number is the answer's, also where the table is damaged
+  pub call_answer : n ≡ (call_block block k).answer
+  unfolding call_block
+  call_answer = rw looked (go (valid (unpacked block)) refl)
+    where
+      go : (b : Bool) → valid (unpacked block) ≡ b → n ≡ (cond b (stored after) (untouched block)).answer
+      go true v = answered
+      go false v = answered ∙ ap (λ x. answer_number x.answer) (damaged v)
+
+  -- what is refused leaves the block
+  pub refused_stored : 10 ≤ d.answer.status → block ≡ (call_block block k).block
+  unfolding call_block
+  refused_stored high = rw looked (go (valid (unpacked block)) refl)
+    where
+      left : after.table ≡ unpacked block
+      left = step_left (unpacked block) k (rw same_answer at high)
+
+      go : (b : Bool) → valid (unpacked block) ≡ b → block ≡ (cond b (stored after) (untouched block)).block
+      go true v = sym (ap packed left ∙ bytes_back block (all_bytes block small) size (sym unused_is ∙ zero_there))
+      go false v = refl
+
+  accepted : d.answer.status < 10 → valid (unpacked block) ≡ true
   accepted low = go (valid (unpacked block)) refl
     where
       go : (b : Bool) → valid (unpacked block) ≡ b → valid (unpacked block) ≡ true
       go true v = v
       go false v =
-          let ten : h.done.answer.status ≡ 10 = ap (λ x. x.status) same_answer_lem ∙ ap (λ x. x.answer.status) (step_damaged (unpacked block) k v) in
+          let ten : d.answer.status ≡ 10 = ap (λ x. x.status) same_answer ∙ ap (λ x. x.answer.status) (damaged v) in
           absurd (omega arith)
 
   -- SEND and RETRIEVE: the whole table is written
-  pub call_done : h.done.answer.status < 10 → (out : List ℕ) → out ≡ whole_put h.done.front h.elements h.criteria block
-      → Comes block k h.number out
+  pub whole_stored : (out : List ℕ) → d.answer.status < 10 → out ≡ whole_put d.front es' cs' block → out ≡ (call_block block k).block
   unfolding call_block
-  call_done low out w =
-      let together : whole h.done.front h.elements h.criteria ≡ after.table = rw (h.elements_are, h.criteria_are, h.done_is, h.table_is) refl in
-      let sized = subst Sized (sym together) after_sized in
-      rw (looked_at block h.size h.unused, accepted low)
-      (answered, w ∙ whole_put_lem h.done.front h.elements h.criteria block sized h.size ∙ ap packed together)
+  whole_stored out low w =
+      let together : whole d.front es' cs' ≡ after.table = rw (es_after, cs_after, done_is, table_is) refl in
+      rw (looked, accepted low)
+      (w ∙ whole_put_lem d.front es' cs' block (subst Sized (sym together) after_sized) size ∙ ap packed together)
 
   -- the other calls leave the store's bytes
-  pub call_kept : (eqb k.operation SEND || eqb k.operation RETRIEVE) ≡ false → h.done.answer.status < 10 → (out : List ℕ)
-      → out ≡ front_packed h.done.front block → Comes block k h.number out
+  pub front_stored : (out : List ℕ) → d.answer.status < 10 → (eqb k.operation SEND || eqb k.operation RETRIEVE) ≡ false
+      → out ≡ front_packed d.front block → out ≡ (call_block block k).block
   unfolding call_block
-  call_kept other low out w =
+  front_stored out low other w =
       let kept = step_contents (unpacked block) k other in
-      let front : h.done.front ≡ front_of after.table = ap (λ x. x.front) h.done_is ∙ ap (λ x. front_of (step x k).table) h.table_is in
-      let together : whole h.done.front (unpacked block).element (unpacked block).criterion ≡ after.table =
+      let front : d.front ≡ front_of after.table = ap (λ x. x.front) done_is ∙ ap (λ x. front_of (step x k).table) table_is in
+      let together : whole d.front (unpacked block).element (unpacked block).criterion ≡ after.table =
       rw front (ap₂ (whole (front_of after.table)) (sym kept.0) (sym kept.1))
       in
-      let sized = subst Sized (sym together) after_sized in
-      rw (looked_at block h.size h.unused, accepted low)
-      (answered, w ∙ front_back h.done.front block h.small h.size sized ∙ ap packed together)
-
-  pub call_refused : 10 ≤ h.done.answer.status → Comes block k h.number block
-  unfolding call_block
-  call_refused high = go (valid (unpacked block)) refl
-    where
-      left : after.table ≡ unpacked block
-      left = step_left (unpacked block) k (rw same_answer_lem at high)
-
-      go : (b : Bool) → valid (unpacked block) ≡ b → Comes block k h.number block
-      go true v =
-          rw (looked_at block h.size h.unused, v)
-          (answered, sym (ap packed left ∙ bytes_back block h.small h.size h.unused))
-      go false v =
-          rw (looked_at block h.size h.unused, v)
-          (answered ∙ ap (λ x. answer_number x.answer) (step_damaged (unpacked block) k v), refl)
+      rw (looked, accepted low)
+      (w ∙ front_back d.front block (all_bytes block small) size (subst Sized (sym together) after_sized) ∙ ap packed together)

@@ -9,6 +9,7 @@ use rules::{Call, RETRIEVE, SEND, STORE};
 
 // Nothing is written unless the call is accepted, and the store only by SEND and RETRIEVE: no other call changes it.
 #[unsafe(no_mangle)]
+#[tactic(auto, using(crate::proofs::CallBlock::call_small, crate::proofs::CallBlock::call_used, crate::proofs::CallBlock::call_answer, crate::proofs::CallBlock::refused_stored, crate::proofs::CallBlock::whole_stored, crate::proofs::CallBlock::front_stored))]
 pub extern "C" fn tankwesho_call(
     block: &mut [u8],
     caller: u8,

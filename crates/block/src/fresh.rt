@@ -8,6 +8,7 @@ use tables::fresh;
 
 // A block of another size is not touched; any other holds the fresh table, or zeros after 20.
 #[unsafe(no_mangle)]
+#[tactic(auto, using(crate::proofs::FreshBlock::fresh_refused, crate::proofs::FreshBlock::fresh_made))]
 pub extern "C" fn tankwesho_fresh<'a>(
     block: &mut [u8],
     tasks: u8,

@@ -33,6 +33,7 @@ fn unknown_query(t: Table) -> Answer
 }
 
 // 0 ARRIVED, 1 EMPTY, 2 FULL, 3 PRIORITY, 4 STATE.
+#[tactic(auto, using(crate::proofs::QueryBlock::arrived_is, crate::proofs::QueryBlock::empty_is, crate::proofs::QueryBlock::full_is, crate::proofs::QueryBlock::priority_is, crate::proofs::QueryBlock::state_is, crate::proofs::QueryBlock::unknown_is))]
 fn query_of(t: Table, query: u8, caller: u8, a: u32, b: u32) -> Answer
     ensures { result ≡ query_or_ten t query caller a b }
 {
@@ -48,6 +49,7 @@ fn query_of(t: Table, query: u8, caller: u8, a: u32, b: u32) -> Answer
 
 // A block that is no table gets 10.
 #[unsafe(no_mangle)]
+#[tactic(auto, using(crate::proofs::QueryBlock::query_small, crate::proofs::QueryBlock::query_used, crate::proofs::QueryBlock::query_done))]
 pub extern "C" fn tankwesho_query(block: &[u8], query: u8, caller: u8, a: u32, b: u32) -> u64
     ensures { result ≡ query_block block.now query caller a b }
 {
