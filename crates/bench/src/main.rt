@@ -7,8 +7,9 @@ ghost use Rattle.session.specs.Run.{most_kept};
 ghost use Rattle.bench.specs.Rounds.{RoundDid, RunEnd};
 
 use frames::ANSWER;
-use libc::{STDERR_FILENO, STDIN_FILENO, STDOUT_FILENO};
 use session::{Standing, at_start, finish, piece};
+use std::io::Read;
+use std::process::ExitCode;
 
 // The bytes of the input that are looked at together: those that are kept of a line that goes on, and those that are read behind them.
 const BUFFER: usize = 16384;
@@ -32,13 +33,14 @@ enum Reason {
 }
 
 // Reads once behind the bytes that are kept, and answers the lines that have ended; where the input has ended, what is kept gets its
-// answer. Only with room for an answer line to every byte is each ended line answered in its turn, so that room is asked for.
-fn round_of(s: Standing, kept: usize, buffer: &mut [u8], out: &mut [u8]) -> Round
+// answer. A read that fails is taken for the end of the input. Only with room for an answer line to every byte is each ended line answered
+// in its turn, so that room is asked for.
+fn round_of(rt: HostRuntime, s: Standing, kept: usize, buffer: &mut [u8], out: &mut [u8]) -> Round
     requires { (kept ≤ most_kept) × (most_kept < length buffer.old) × (answer_length * length buffer.old ≤ length out.old) }
     ensures { RoundDid s (take kept buffer.old) result buffer.new out.new }
 {
-    let got = libc::read(STDIN_FILENO, &mut buffer[kept..]);
-    let n = io::count(got, &buffer[kept..]);
+    let got = rt.stdin().read(&mut buffer[kept..]);
+    let n = got.unwrap_or(0);
     if n == 0 {
         let written = finish(s, &buffer[0..kept], out);
         return Round {
@@ -60,7 +62,7 @@ fn round_of(s: Standing, kept: usize, buffer: &mut [u8], out: &mut [u8]) -> Roun
 
 // Round after round, each with its answers written. A proved loop has to end, and nothing says that the input does: the rounds are counted
 // down from a number that no run uses up. What a round leaves to be written is promised; that it was written is no value, and so is not.
-fn run(buffer: &mut [u8], out: &mut [u8]) -> Reason
+fn run(rt: HostRuntime, buffer: &mut [u8], out: &mut [u8]) -> Reason
     requires { (most_kept < length buffer.old) × (answer_length * length buffer.old ≤ length out.old) }
     ensures { RunEnd result out.new }
 {
@@ -68,9 +70,9 @@ fn run(buffer: &mut [u8], out: &mut [u8]) -> Reason
     let mut kept = 0;
     let mut rounds = u64::MAX;
     while 0 < rounds {
-        let r = round_of(s, kept, buffer, out);
+        let r = round_of(rt, s, kept, buffer, out);
         let written = r.written;
-        if !io::write_all(STDOUT_FILENO, &out[0..written]) {
+        if rt.write_all(&out[0..written]).is_err() {
             return Reason::Output;
         }
         if r.ended {
@@ -84,14 +86,15 @@ fn run(buffer: &mut [u8], out: &mut [u8]) -> Reason
 }
 
 // The output has room for an answer line to every byte of the input, since a line may be its line feed alone.
-fn main() {
+fn main(rt: HostRuntime) -> ExitCode {
     let mut buffer = [0u8; BUFFER];
     let mut out = [0u8; ANSWER * BUFFER];
-    match run(&mut buffer, &mut out) {
-        Reason::Input => {}
+    match run(rt, &mut buffer, &mut out) {
+        Reason::Input => ExitCode::SUCCESS,
         Reason::Output => {
-            io::write_all(STDERR_FILENO, b"bench: an answer could not be written\n");
+            let _ = rt.eprintln("bench: an answer could not be written");
+            ExitCode::FAILURE
         }
-        Reason::Rounds => {}
+        Reason::Rounds => ExitCode::SUCCESS,
     }
 }

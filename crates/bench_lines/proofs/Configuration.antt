@@ -1,13 +1,13 @@
 -- Laws of the first line: its numbers, two digits each, and each reason to refuse it.
 use Prim.Native.Nat.{ℕ, zero, suc, ◌+◌, ◌*◌, ◌-◌, ◌/◌, ◌%◌, ◌<◌, ◌≤◌}
-use mathlib.Core.Path.{◌≡◌, refl, sym, ap, ◌∙◌}
-use mathlib.Core.Bool.{Bool, true, false, cond, not, ◌&&◌, ◌||◌, and-true}
+use mathlib.Core.Path.{◌≡◌, refl, sym, ◌∙◌}
+use mathlib.Core.Bool.{Bool, true, false, cond, ◌&&◌, ◌||◌, and-true}
 use mathlib.Core.List.{List, [], ◌∷◌}
 use native.Mathlib.Omega.{arith}
 use lib.Dec.{eqb, ltb, leb}
 use lib.ListN.{length, take, drop, get_or, set, replicate, length-drop}
 use lib.Seq.{take-length, take_all, length-take-le, take-append-le, drop-append-le}
-use borrow.Author.Tests.{lt-ltb, le-leb, eq-eqb, ne_eqb, leb-true, leb-false, not-true, not-false}
+use borrow.Author.Tests.{lt-ltb, le-leb, eq-eqb, ne_eqb, leb-true, leb-false}
 use Rattle.rules.specs.Numbers.{task_room, priority_end, region_room, queue_room, nobody}
 use Rattle.rules.specs.Words.{all, every, padded}
 use Rattle.rules.specs.Validity.{counts_in_range, bound_in_range, mark_in_range}
@@ -121,13 +121,13 @@ module _ (line a : List ℕ) (e : a ≡ padded number_room 0 (numbers line)) (p 
   at i = rw e (padded_get number_room i (numbers line))
 
   module _ (ok : Bool) (k : ok ≡ counts_in_range (get_or a 0 0) (get_or a 1 0) (get_or a 2 0)) where
-    pub counts_refuse : not ok ≡ true → first_refused 20 ≡ first_done line
+    pub counts_refuse : ok ≡ false → first_refused 20 ≡ first_done line
     unfolding first_done first_reasons
-    counts_refuse h = simp (p, long, rw (at 0, at 1, at 2) at (sym k ∙ not-true ok h))
+    counts_refuse h = simp (p, long, rw (at 0, at 1, at 2) at (sym k ∙ h))
 
-    module _ (h : not ok ≡ false) where
+    module _ (h : ok ≡ true) where
       right : counts_in_range (get_or (numbers line) 0 0) (get_or (numbers line) 1 0) (get_or (numbers line) 2 0) ≡ true
-      right = rw (at 0, at 1, at 2) at (sym k ∙ not-false ok h)
+      right = rw (at 0, at 1, at 2) at (sym k ∙ h)
 
       pub counts_small : (get_or a 0 0 ≤ task_room) × (get_or a 1 0 ≤ region_room) × (get_or a 2 0 ≤ queue_room)
       unfolding counts_in_range

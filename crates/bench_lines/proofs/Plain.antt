@@ -1,11 +1,11 @@
 -- Laws of what comes before a first line's counts: its characters, its length, an odd number of digits.
 use Prim.Native.Nat.{ℕ, ◌%◌, ◌≤◌}
 use mathlib.Core.Path.{◌≡◌}
-use mathlib.Core.Bool.{Bool, true, false, not, ◌&&◌, ◌||◌}
+use mathlib.Core.Bool.{Bool, true, false, ◌&&◌, ◌||◌}
 use mathlib.Core.List.{List}
 use lib.Dec.{eqb, ltb, leb}
 use lib.ListN.{length}
-use borrow.Author.Tests.{leb-true, not-true, not-false}
+use borrow.Author.Tests.{leb-true}
 use Rattle.rules.specs.Words.{every}
 use Rattle.rules.proofs.Bools.{and_left}
 use Rattle.digits.specs.Digits.{is_digit}
@@ -14,15 +14,15 @@ use Rattle.bench_lines.specs.Start.{first_refused}
 use Rattle.bench_lines.specs.First.{plain, first_reasons, first_done}
 
 module _ (line : List ℕ) (ok : Bool) (e : ok ≡ every is_digit line) where
-  pub first_not_plain : not (leb (length line) longest && ok) ≡ true → first_refused 21 ≡ first_done line
+  pub first_not_plain : (leb (length line) longest && ok) ≡ false → first_refused 21 ≡ first_done line
   unfolding first_done first_reasons plain
-  first_not_plain n = simp (rw e at (not-true (leb (length line) longest && ok) n))
+  first_not_plain n = simp (rw e at n)
 
-  pub line_plain : not (leb (length line) longest && ok) ≡ false → plain line ≡ true
+  pub line_plain : (leb (length line) longest && ok) ≡ true → plain line ≡ true
   unfolding plain
-  line_plain n = rw e at (not-false (leb (length line) longest && ok) n)
+  line_plain n = rw e at n
 
-  pub first_short_or_odd : not (leb (length line) longest && ok) ≡ false → (ltb (length line) 6 || eqb (length line % 2) 1) ≡ true
+  pub first_short_or_odd : (leb (length line) longest && ok) ≡ true → (ltb (length line) 6 || eqb (length line % 2) 1) ≡ true
       → first_refused 21 ≡ first_done line
   unfolding first_done first_reasons
   first_short_or_odd n l = simp (line_plain n, l)

@@ -53,8 +53,8 @@ fn fresh_from(
 
 // What is left to be checked of a plain line of at least six digits and of even length.
 fn configured(line: &[u8]) -> Done
-    requires line_value { plain line.now ≡ true }
-    requires line_value_2 { (ltb (length line.now) 6 || eqb (length line.now % 2) 1) ≡ false }
+    requires plain_line { plain line.now ≡ true }
+    requires long_and_even { (ltb (length line.now) 6 || eqb (length line.now % 2) 1) ≡ false }
     ensures { result ≡ first_done line.now }
 {
     let numbers = numbers_of(line);

@@ -1,28 +1,36 @@
 // The input of a case, put together from its parts: files, and long lines that are made here.
 ghost use Rattle.std.specs.Prelude.{◌≤◌, length};
 
-use super::words::is_number;
-use bytes::scan::find;
+use super::say;
+use super::words::{find, is_number};
 use digits::decimal_of;
-use libc::STDOUT_FILENO;
+use std::fs::File;
+use std::io;
 use tables::lesser;
 
+// No file has a name that is not text.
+fn opened(rt: HostRuntime, name: &[u8]) -> io::Result<File> {
+    match str::from_utf8(name) {
+        Ok(text) => File::open(&rt, text),
+        Err(_) => Err(io::Error::from(io::ErrorKind::NotFound)),
+    }
+}
+
 // A file. One that isn't there is written out, so that it can't go unseen.
-fn file_laid(name: &[u8], rest: &mut [u8]) -> usize
+fn file_laid(rt: HostRuntime, name: &[u8], rest: &mut [u8]) -> usize
     ensures { result ≤ length rest.old }
 {
-    let fd = os::open_read(name);
-    if fd < 0 {
-        io::write_all(STDOUT_FILENO, b"no file\n");
-        return 0;
+    match opened(rt, name) {
+        Ok(mut file) => say::read_full(&mut file, rest),
+        Err(_) => {
+            say::word(rt, b"no file\n");
+            0
+        }
     }
-    let n = io::read_full(fd, rest);
-    libc::close(fd);
-    n
 }
 
 // A line of so many characters A and a line feed.
-fn line_laid(letters: usize, rest: &mut [u8]) -> usize
+fn line_laid(rt: HostRuntime, letters: usize, rest: &mut [u8]) -> usize
     ensures { result ≤ length rest.old }
 {
     let n = lesser(letters, rest.len());
@@ -30,7 +38,7 @@ fn line_laid(letters: usize, rest: &mut [u8]) -> usize
         rest[i] = b'A';
     }
     if n == rest.len() {
-        io::write_all(STDOUT_FILENO, b"no room\n");
+        say::word(rt, b"no room\n");
         return n;
     }
     rest[n] = b'\n';
@@ -38,24 +46,24 @@ fn line_laid(letters: usize, rest: &mut [u8]) -> usize
 }
 
 // A part by its word: a number stands for so many characters A and a line feed, any other word for a file. Returns how many bytes it has.
-fn part_laid(word: &[u8], rest: &mut [u8]) -> usize
+fn part_laid(rt: HostRuntime, word: &[u8], rest: &mut [u8]) -> usize
     ensures { result ≤ length rest.old }
 {
     if is_number(word) {
-        return line_laid(decimal_of(word) as usize, rest);
+        return line_laid(rt, decimal_of(word) as usize, rest);
     }
-    file_laid(word, rest)
+    file_laid(rt, word, rest)
 }
 
 // The parts in turn, as the words of a text name them. Returns how many bytes the input has.
-pub(crate) fn laid(text: &[u8], input: &mut [u8]) -> usize
+pub(crate) fn laid(rt: HostRuntime, text: &[u8], input: &mut [u8]) -> usize
     ensures { result ≤ length input.new }
 {
     let mut end = 0;
     let mut from = 0;
     while from < text.len() {
         let to = find(text, from, text.len(), b' ');
-        end = end + part_laid(&text[from..to], &mut input[end..]);
+        end = end + part_laid(rt, &text[from..to], &mut input[end..]);
         from = to + 1;
     }
     end

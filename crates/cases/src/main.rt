@@ -6,11 +6,12 @@ mod feed;
 mod input;
 mod left;
 mod list;
+mod say;
 mod words;
 
 // The list is read at once, and so can have 65,536 bytes.
-fn main() {
-    let mut text = io::large_buffer();
-    let n = io::read_full(0, &mut text);
-    list::play(&text[..n]);
+fn main(rt: HostRuntime) {
+    let mut text = [0u8; 65536];
+    let n = say::read_full(&mut rt.stdin(), &mut text);
+    list::play(rt, &text[..n]);
 }

@@ -22,6 +22,7 @@ fn fill(line: &mut [u8], r: Answer)
 }
 
 // Writes the answer line over the bytes from `at` on; nothing where there are too few.
+#[tactic(auto, using(crate::proofs::Written::placed_nowhere, crate::proofs::Written::placed_there, crate::proofs::Written::answer_length_lem))]
 pub fn put_answer(out: &mut [u8], at: usize, r: Answer)
     ensures { out.new ≡ placed at (answer_line r) out.old }
 {

@@ -49,6 +49,7 @@ fn word_of_bytes(a: u8, b: u8, c: u8, d: u8) -> u32
 }
 
 // The number in each two digits that stand side by side. There is no branch, so that the loop becomes one step over 16 bytes.
+#[tactic(auto, using(crate::proofs::TwoDigits::read_none, crate::proofs::TwoDigits::read_more))]
 fn two_digit_numbers(s: &[u8]) -> [u8; STEP]
     requires { length s.now ≡ suc step_bytes }
     ensures { (i : ℕ) → i < step_bytes → get_or result i 0 ≡ two_digits_at s.now i }
@@ -61,6 +62,7 @@ fn two_digit_numbers(s: &[u8]) -> [u8; STEP]
 }
 
 // The call in a line: every second of these numbers makes up its fields, and the two halves overlap so that each is a whole step.
+#[tactic(auto, using(crate::proofs::TwoDigits::call_read))]
 fn call_of(line: &[u8]) -> Call
     requires { length line.now ≡ call_length }
     ensures { result ≡ call_in line.now }
@@ -77,6 +79,7 @@ fn call_of(line: &[u8]) -> Call
 }
 
 // Whether a line's characters are digits: in two parts that overlap, each of which is one step of a vector.
+#[tactic(auto, using(crate::proofs::CallLine::every_halves))]
 fn digits_alone(s: &[u8]) -> bool
     requires { length s.now ≡ call_length }
     ensures { result ≡ every is_digit s.now }
@@ -86,6 +89,7 @@ fn digits_alone(s: &[u8]) -> bool
     front & back
 }
 
+#[tactic(auto, using(crate::proofs::CallLine::call_line_short, crate::proofs::CallLine::call_line_other, crate::proofs::CallLine::call_line_ended))]
 fn call_line_at(input: &[u8], at: usize) -> bool
     ensures { result ≡ call_line_at input.now at }
 {
@@ -102,6 +106,7 @@ fn call_line_at(input: &[u8], at: usize) -> bool
     digits_alone(&input[at..end])
 }
 
+#[tactic(auto, using(crate::proofs::CallLine::request_none, crate::proofs::CallLine::request_some, crate::proofs::CallLine::request_room))]
 pub fn request_at(input: &[u8], at: usize) -> Request
     ensures { result ≡ request_at input.now at }
 {

@@ -43,7 +43,7 @@ fn known_or_seen<'a>(
 ) -> bool
     requires element_len { length element.now ≡ store_size }
     requires criterion_len { length criterion.now ≡ store_size }
-    requires known_value { known ≡ valid (whole f element.now criterion.now) }
+    requires known_right { known ≡ valid (whole f element.now criterion.now) }
     ensures { result ≡ valid (whole f element.now criterion.now) }
 {
     if each {
@@ -65,8 +65,8 @@ fn run_lent<'a>(
 ) -> Front
     requires element_len { length element.old ≡ store_size }
     requires criterion_len { length criterion.old ≡ store_size }
-    requires n_in_bounds { 5 * n ≤ length log.now }
-    requires n_in_bounds_2 { n ≤ length answers.old }
+    requires calls_in_log { 5 * n ≤ length log.now }
+    requires room_for_answers { n ≤ length answers.old }
     ensures front { result ≡ front_of (replayed (whole f element.old criterion.old) log.now answers.old n).table }
     ensures elements { element.new ≡ (replayed (whole f element.old criterion.old) log.now answers.old n).table.element }
     ensures criteria { criterion.new ≡ (replayed (whole f element.old criterion.old) log.now answers.old n).table.criterion }

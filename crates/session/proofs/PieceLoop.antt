@@ -18,7 +18,7 @@ use Rattle.rules.proofs.Bools.{and_left, and_right, not_intro}
 use Rattle.theorems.proofs.Kept.{store_kept}
 use Rattle.tables.specs.declared.front.Front.{Front}
 use Rattle.tables.specs.declared.front.FrontDone.{FrontDone}
-use Rattle.tables.specs.Fronts.{whole, front_of, front_done}
+use Rattle.tables.specs.Fronts.{whole, front_of}
 use Rattle.frames.specs.declared.call.Request.{Request}
 use Rattle.frames.specs.Answers.{answer_length, answer_line, placed}
 use Rattle.frames.proofs.Written.{answer_length_lem}

@@ -1,6 +1,5 @@
 // Tables compared by their blocks: each field of a table has bytes of its own in its block (docs/BLOCK.md), so that two tables are the same
 // where their blocks are.
-use check::same;
 use layout::{SIZE, pack, unpack};
 use rules::Table;
 
@@ -13,7 +12,7 @@ fn packed(t: Table) -> Block {
 }
 
 pub(crate) fn same_tables(a: Table, b: Table) -> bool {
-    same(&packed(a), &packed(b))
+    packed(a) == packed(b)
 }
 
 pub(crate) fn zeros() -> Table {

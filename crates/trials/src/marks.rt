@@ -4,27 +4,27 @@ use crate::say;
 use exclusion::excludes;
 
 // + where the operation of the row excludes that of the column, else -.
-fn mark(row: u8, column: u8) {
+fn mark(rt: HostRuntime, row: u8, column: u8) {
     if excludes(row, column) {
-        say::word(b"+");
+        say::word(rt, b"+");
     } else {
-        say::word(b"-");
+        say::word(rt, b"-");
     }
 }
 
 // The row of operation a.
-pub(crate) fn marked(r: Row) {
+pub(crate) fn marked(rt: HostRuntime, r: Row) {
     let row = (r.a % 256) as u8;
-    say::word(b": ");
-    mark(row, 0);
-    mark(row, 1);
-    mark(row, 2);
-    mark(row, 3);
-    mark(row, 4);
-    mark(row, 5);
-    mark(row, 6);
-    mark(row, 7);
-    mark(row, 8);
-    mark(row, 9);
-    say::word(b"\n");
+    say::word(rt, b": ");
+    mark(rt, row, 0);
+    mark(rt, row, 1);
+    mark(rt, row, 2);
+    mark(rt, row, 3);
+    mark(rt, row, 4);
+    mark(rt, row, 5);
+    mark(rt, row, 6);
+    mark(rt, row, 7);
+    mark(rt, row, 8);
+    mark(rt, row, 9);
+    say::word(rt, b"\n");
 }

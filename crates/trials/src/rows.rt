@@ -1,6 +1,5 @@
 // A trial's row of numbers, read from its words.
-use super::words::value_of;
-use bytes::scan::find;
+use super::words::{find, value_of};
 
 // A line `TABLE CALLER OPERATION A B C PRIORITIES BOUNDS LAST MARKS MARK`. What a line does not list is 0.
 #[derive(Clone, Copy)]
@@ -37,7 +36,7 @@ fn with(mut r: Row, place: usize, n: u32) -> Row {
 }
 
 // A word ends at a space.
-pub(crate) fn row_of(text: &[u8]) -> Row {
+pub(crate) fn row_of(rt: HostRuntime, text: &[u8]) -> Row {
     let mut r = Row {
         table: 0,
         caller: 0,
@@ -56,7 +55,7 @@ pub(crate) fn row_of(text: &[u8]) -> Row {
     while start < text.len() {
         let end = find(text, start, text.len(), b' ');
         if start < end {
-            r = with(r, place, value_of(&text[start..end]));
+            r = with(r, place, value_of(rt, &text[start..end]));
             place = place + 1;
         }
         start = end + 1;

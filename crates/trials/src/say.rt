@@ -1,37 +1,38 @@
 // What a line is made of.
 use rules::Answer;
 
-pub(crate) fn word(text: &[u8]) {
-    io::write_all(1, text);
+// What is written is compared, so that a write that fails is seen there.
+pub(crate) fn word(rt: HostRuntime, text: &[u8]) {
+    let _ = rt.write_all(text);
 }
 
 // A whole line.
-pub(crate) fn line(text: &[u8]) {
-    word(text);
-    word(b"\n");
+pub(crate) fn line(rt: HostRuntime, text: &[u8]) {
+    word(rt, text);
+    word(rt, b"\n");
 }
 
 // A text, and a number behind it.
-fn number(text: &[u8], n: u32) {
-    word(text);
-    io::print_decimal(1, n as u64);
+fn number(rt: HostRuntime, text: &[u8], n: u32) {
+    word(rt, text);
+    let _ = rt.print(n);
 }
 
 // The numbers of an answer, behind the name.
-pub(crate) fn answer(a: Answer) {
-    number(b": status ", a.status as u32);
-    number(b" value ", a.value);
-    number(b" key ", a.key as u32);
-    number(b" elected ", a.elected as u32);
-    number(b" displaced ", a.displaced as u32);
+pub(crate) fn answer(rt: HostRuntime, a: Answer) {
+    number(rt, b": status ", a.status as u32);
+    number(rt, b" value ", a.value);
+    number(rt, b" key ", a.key as u32);
+    number(rt, b" elected ", a.elected as u32);
+    number(rt, b" displaced ", a.displaced as u32);
 }
 
 // The last word of a line.
-pub(crate) fn ending(first: bool, yes: &[u8], no: &[u8]) {
-    word(b" ");
+pub(crate) fn ending(rt: HostRuntime, first: bool, yes: &[u8], no: &[u8]) {
+    word(rt, b" ");
     if first {
-        line(yes);
+        line(rt, yes);
     } else {
-        line(no);
+        line(rt, no);
     }
 }

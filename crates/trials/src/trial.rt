@@ -22,30 +22,30 @@ fn call_of(r: Row) -> Call {
 }
 
 // The answer of a call, and the table after it.
-fn answered(t: Table, k: Call) -> Table {
+fn answered(rt: HostRuntime, t: Table, k: Call) -> Table {
     let d = call(t, k);
-    say::answer(d.answer);
+    say::answer(rt, d.answer);
     d.table
 }
 
 // A call: the answer, and whether the table has changed.
-fn called(before: Table, k: Call) -> Table {
-    let after = answered(before, k);
-    say::ending(same_tables(before, after), b"untouched", b"changed");
+fn called(rt: HostRuntime, before: Table, k: Call) -> Table {
+    let after = answered(rt, before, k);
+    say::ending(rt, same_tables(before, after), b"untouched", b"changed");
     after
 }
 
 // A query: the answer alone.
-fn asked(table: Table, r: Row) {
-    say::answer(replied(table, r));
-    say::word(b"\n");
+fn asked(rt: HostRuntime, table: Table, r: Row) {
+    say::answer(rt, replied(table, r));
+    say::word(rt, b"\n");
 }
 
 // A CLEAR of event 0 by task 0, on the table with c in field a at entry b. A change that changes nothing would be no trial.
-fn damaged(table: Table, r: Row) -> Table {
+fn damaged(rt: HostRuntime, table: Table, r: Row) -> Table {
     let other = spoiled(table, r.a, r.b, r.c);
     if same_tables(table, other) {
-        say::word(b": nothing changed\n");
+        say::word(rt, b": nothing changed\n");
         return table;
     }
     let clear = Call {
@@ -55,28 +55,28 @@ fn damaged(table: Table, r: Row) -> Table {
         b: 0,
         c: 0,
     };
-    called(other, clear)
+    called(rt, other, clear)
 }
 
 // What a line asks for: a call, a query, or an operation of the program's own.
-pub(crate) fn trial(r: Row, before: Table) -> Table {
+pub(crate) fn trial(rt: HostRuntime, r: Row, before: Table) -> Table {
     let table = table_of(r.table, before);
     let operation = r.operation;
     match operation {
-        0..=255 => called(table, call_of(r)),
+        0..=255 => called(rt, table, call_of(r)),
         ARRIVED..=STATE => {
-            asked(table, r);
+            asked(rt, table, r);
             table
         }
-        CHANGE => damaged(table, r),
-        CONFIGURE => configurations::benched(r),
-        LIST => configurations::listed(r),
+        CHANGE => damaged(rt, table, r),
+        CONFIGURE => configurations::benched(rt, r),
+        LIST => configurations::listed(rt, r),
         MARKS => {
-            marked(r);
+            marked(rt, r);
             table
         }
         _ => {
-            configurations::lengthened();
+            configurations::lengthened(rt);
             table
         }
     }

@@ -1,13 +1,27 @@
 // The words of a line: numbers, and names that stand for numbers.
+ghost use Rattle.std.specs.Prelude.{◌≡◌, ◌≢◌, ℕ, ◌<◌, ◌≤◌, length, slice_index};
+
 use crate::say;
-use bytes::scan::find;
-use check::same;
 use digits::decimal_of;
-use std::num::wrapping_add_u32;
 use tables::byte_at;
 
 // What no name stands for.
 const NOTHING: u32 = 4294967295;
+
+// The place of the first such byte from `from` on and before `to`, or `to` where there is none.
+pub(crate) fn find(text: &[u8], from: usize, to: usize, byte: u8) -> usize
+    requires { (from ≤ to) × (to ≤ length text.now) }
+    ensures within { (from ≤ result) × (result ≤ to) }
+    ensures before { (k : ℕ) → from ≤ k → k < result → slice_index text.now k ≢ byte }
+    ensures found { result < to → slice_index text.now result ≡ byte }
+{
+    for i in from..to {
+        if text[i] == byte {
+            return i;
+        }
+    }
+    to
+}
 
 // Digits come before letters.
 fn is_number(word: &[u8]) -> bool {
@@ -20,7 +34,7 @@ fn next(n: u32, word: &[u8]) -> u32 {
     if is_number(word) {
         return decimal_of(word);
     }
-    wrapping_add_u32(n, 1)
+    n.wrapping_add(1)
 }
 
 // What the word stands for by a list of names and numbers that each have a space behind them.
@@ -30,7 +44,7 @@ fn looked_up(word: &[u8], names: &[u8]) -> u32 {
     while start < names.len() {
         let end = find(names, start, names.len(), b' ');
         let name = &names[start..end];
-        if same(word, name) {
+        if word == name {
             return n;
         }
         n = next(n, name);
@@ -56,14 +70,14 @@ fn name_of(word: &[u8]) -> u32 {
 }
 
 // The number that a word stands for. An unknown word is written out, so that it can't go unseen.
-pub(crate) fn value_of(word: &[u8]) -> u32 {
+pub(crate) fn value_of(rt: HostRuntime, word: &[u8]) -> u32 {
     if is_number(word) {
         return decimal_of(word);
     }
     let n = name_of(word);
     if n == NOTHING {
-        say::word(b"unknown: ");
-        say::line(word);
+        say::word(rt, b"unknown: ");
+        say::line(rt, word);
     }
     n
 }
