@@ -1,5 +1,5 @@
 /* The executive's table in a block of bytes, and the three functions on it, for C99 and C++ on x86-64 Linux.
-   Link target/staticlib/libtankwesho.a, which `host/library` writes. Its functions are proved; this header and whoever includes it are not.
+   Link target/native/libtankwesho.a, which `host/library` writes. Its functions are proved; this header and whoever includes it are not.
    docs/BLOCK.md has the block byte by byte, docs/REFERENCE.md the operations and the statuses. */
 #ifndef TANKWESHO_H
 #define TANKWESHO_H
