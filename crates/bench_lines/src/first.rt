@@ -67,7 +67,8 @@ fn configured(line: &[u8]) -> Done
     let bounds = 3 + (tasks as usize);
     let marks = bounds + (queues as usize);
     let end = marks + (regions as usize);
-    if line.len() != 2 * end {
+    let digits = 2 * end;
+    if line.len() != digits {
         return first_refused(21);
     }
     fresh_from(tasks, regions, queues, &numbers, bounds, marks, end)

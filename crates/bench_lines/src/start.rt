@@ -48,6 +48,7 @@ pub(crate) fn first_refused(status: u8) -> Done
 }
 
 // Only the table of zeros has no task; it has no elected task to report.
+#[tactic(auto, unfolding(crate::specs::Steps::malformed_answer))]
 pub fn malformed_answer(tasks: u8, elected: u8) -> Answer
     ensures { result ≡ malformed_answer tasks elected }
 {

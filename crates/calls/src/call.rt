@@ -29,7 +29,8 @@ pub fn call_assuming(
     ensures { StepAssuming valid (whole f element.old criterion.old) k result element.new criterion.new }
 {
     let status = refusal_of(valid, f, criterion, k);
-    if status != 0 {
+    let refused = status != 0;
+    if refused {
         return FrontDone {
             front: f,
             answer: Answer {
@@ -51,7 +52,8 @@ pub fn call_assuming(
     if operation < SEND {
         return exit_call(f, k);
     }
-    if operation == SEND {
+    let sends = operation == SEND;
+    if sends {
         return send_call(f, k, element, criterion);
     }
     if operation == RETRIEVE {

@@ -34,6 +34,7 @@ fn rank(state: u8, priority: u8) -> u16
 }
 
 // The smaller of p and the task's priority, if the task is ready.
+#[tactic(auto, using(crate::proofs::Ranks::lesser_first, crate::proofs::Ranks::lesser_second))]
 fn lesser(state: u8, priority: u8, p: u16) -> u16
     requires { p ≤ priority_end }
     ensures { result ≡ cond (eqb state ready) (min priority p) p }
@@ -116,6 +117,7 @@ pub fn best_ready<'a>(state: &'a [u8; TASKS], priority: &'a [u8; TASKS]) -> u8
 }
 
 // The holder behind the entry v, if there is one; else the best ready task.
+#[tactic(auto, unfolding(rules::specs::Election::elected_by))]
 pub fn elected_by<'a>(v: u8, state: &'a [u8; TASKS], priority: &'a [u8; TASKS]) -> u8
     requires state_len { length state.now ≡ task_room }
     requires priority_len { length priority.now ≡ task_room }

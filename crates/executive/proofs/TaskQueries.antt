@@ -1,12 +1,12 @@
 -- The three queries about tasks: the status is the rules', and where it is 0 so is the value.
-use Prim.Native.Nat.{ℕ, ◌%◌}
+use Prim.Native.Nat.{ℕ, ◌%◌, ◌≤◌}
 use mathlib.Core.Path.{◌≡◌, refl, sym, ap, ◌∙◌}
 use mathlib.Core.Bool.{Bool, not, ◌||◌}
 use mathlib.Core.List.{List, [], ◌∷◌}
 use native.Mathlib.Omega.{arith}
 use native.Mathlib.Nat.{mod-eq_of_lt}
 use lib.Dec.{eqb}
-use lib.ListN.{get_or}
+use lib.ListN.{get_or, length, get_or-eq_default}
 use borrow.Author.Tests.{ltb-false}
 use Rattle.rules.specs.declared.Table.{Table}
 use Rattle.rules.specs.Numbers.{outside}
@@ -20,6 +20,10 @@ use Rattle.rules.proofs.Bools.{or_right}
 use Rattle.rules.proofs.Refusals.{first_none}
 use Rattle.executive.specs.Replies.{reply_by}
 use Rattle.executive.proofs.Replies.{object_flags, reply_same}
+
+-- past the array there is no event
+pub past_the_tasks : (xs : List ℕ) (i : ℕ) → length xs ≤ i → 0 ≡ get_or xs i 0
+past_the_tasks xs i h = sym (get_or-eq_default xs 0 h)
 
 abbrev arrived_flags : Bool → ℕ → ℕ → ℕ → ℕ → List Reason
 arrived_flags ok elected caller list operator =

@@ -32,6 +32,7 @@ pub fn full(t: Table, queue: u32) -> Answer
 }
 
 // The events of a task, none for one that does not exist.
+#[tactic(auto, using(crate::proofs::TaskQueries::past_the_tasks))]
 fn events_at(arrived: &[u16; TASKS], i: u8) -> u16
     requires { length arrived.now ≡ task_room }
     ensures { result ≡ get_or arrived.now i 0 }

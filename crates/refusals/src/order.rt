@@ -35,7 +35,8 @@ fn late_of(f: Front, criterion: &[u8; STORE], k: Call) -> u8
         let timers = f.timers;
         return timer_reason_of(timers, k);
     }
-    if EXIT < k.operation {
+    let about_queues = EXIT < k.operation;
+    if about_queues {
         return queue_reason_of(f, criterion, k);
     }
     task_reason_of(f, k)

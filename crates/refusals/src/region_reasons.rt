@@ -93,6 +93,7 @@ pub(crate) fn circle_of<'a>(awaits: &'a [u8; TASKS], holder: &'a [u8; REGIONS], 
 }
 
 // 25: STOP or END of a task that holds an open region.
+#[tactic(auto, using(crate::proofs::Tests::stops_stop, crate::proofs::Tests::stops_end, crate::proofs::Tests::stops_none))]
 pub(crate) fn stops_holder_of<'a>(
     opened: &'a [u8; REGIONS],
     holder: &'a [u8; REGIONS],

@@ -22,7 +22,8 @@ pub fn closed_held<'a>(opened: &'a [u8; REGIONS], holder: &'a [u8; REGIONS]) -> 
 {
     for i in 0..REGIONS {
         let h = closed_entry(opened[i], holder[i]);
-        if h != 0 {
+        let occupied = h != 0;
+        if occupied {
             return h;
         }
     }

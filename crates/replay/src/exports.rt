@@ -22,7 +22,8 @@ pub extern "C" fn tankwesho_replay(
     if block.len() != SIZE {
         return 0;
     }
-    if !unused_zero(block) {
+    let used = !unused_zero(block);
+    if used {
         return 0;
     }
     let mut element = [0u32; STORE];

@@ -11,10 +11,12 @@ pub fn finish(s: Standing, rest: &[u8], out: &mut [u8]) -> usize
     ensures result { result ≡ ending_length s rest.now (length out.old) }
     ensures written { out.new ≡ placed 0 (ending s rest.now) out.old }
 {
-    if rest.len() == 0 {
+    let nothing = rest.len() == 0;
+    if nothing {
         return 0;
     }
-    if out.len() < ANSWER {
+    let narrow = out.len() < ANSWER;
+    if narrow {
         return 0;
     }
     let t = s.table;

@@ -169,13 +169,16 @@ pub fn fresh<'a>(
     if !counts_right(tasks, regions, queues) {
         return out_of_range();
     }
-    if priorities.len() < (tasks as usize) {
+    let short_priorities = priorities.len() < (tasks as usize);
+    if short_priorities {
         return out_of_range();
     }
-    if bounds.len() < (queues as usize) {
+    let short_bounds = bounds.len() < (queues as usize);
+    if short_bounds {
         return out_of_range();
     }
-    if marks.len() < (regions as usize) {
+    let short_marks = marks.len() < (regions as usize);
+    if short_marks {
         return out_of_range();
     }
     if !bounds_right(queues as usize, bounds) {

@@ -8,6 +8,7 @@ use crate::signal::signalled_by;
 use rules::{CLEAR, Call, END, READY, SIGNAL, START, STOPPED, Task, WAIT, WAITING};
 
 // Which task the call changes: the one that START, STOP and SIGNAL name, else the caller.
+#[tactic(auto, unfolding(crate::specs::Effects::target))]
 pub fn target_of(k: Call) -> u32
     ensures { result ≡ target k }
 {

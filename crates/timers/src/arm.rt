@@ -69,7 +69,8 @@ pub fn timer_after(k: Call, ticks: u32, r: Timer) -> Timer
     ensures { result ≡ timer_after k ticks r }
 {
     let date = later_by(ticks, k.c);
-    if k.operation == ARM {
+    let arms = k.operation == ARM;
+    if arms {
         return armed_timer(k.caller, (k.b % 256) as u8, date);
     }
     disarmed_timer(k.caller, r)

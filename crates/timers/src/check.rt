@@ -9,6 +9,7 @@ use rules::{EVENTS, LONGEST_DELAY, STOPPED, TASKS, TIMERS, Timer};
 
 // One timer by its fields, where `state` is what `state_at` has read for its owner. Every test has a way out: an idle timer is done after its
 // four zeros, and which timers are armed changes too seldom for a processor to guess it wrong.
+#[tactic(auto, using(crate::proofs::Fits::not_armed, crate::proofs::Fits::no_owner, crate::proofs::Fits::owner_stopped, crate::proofs::Fits::no_event, crate::proofs::Fits::dated))]
 fn timer_fits(owners: u8, ticks: u32, armed: u8, owner: u8, event: u8, date: u32, state: u8) -> bool
     ensures { result ≡ timer_fits owners state ticks (record { armed = armed; owner = owner; event = event; date = date }) }
 {

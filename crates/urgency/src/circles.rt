@@ -85,7 +85,8 @@ fn each_ends<'a>(awaits: &'a [u8; TASKS], holder: &'a [u8; REGIONS]) -> bool
     ensures { result ≡ no_circle awaits.now holder.now }
 {
     for i in 0..TASKS {
-        if !ends_of(TASKS as u8, i as u8, awaits, holder) {
+        let round = !ends_of(TASKS as u8, i as u8, awaits, holder);
+        if round {
             return false;
         }
     }

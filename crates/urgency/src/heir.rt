@@ -87,7 +87,8 @@ pub fn heir_at_exit<'a>(
     requires holder_len { length holder.now ≡ region_room }
     ensures { result ≡ cond (eqb entries 1) (heir priority.now awaits.now opened.now holder.now r) nobody }
 {
-    if entries != 1 {
+    let goes_on = entries != 1;
+    if goes_on {
         return NOBODY;
     }
     if nobody_awaits(awaits) {

@@ -23,24 +23,28 @@ pub fn front_valid<'a>(f: Front, element: &'a [u32; STORE], criterion: &'a [u8; 
     let v = closed_bits(&f.opened, &f.holder);
     let held = regions_right(f.regions, v, &f.opened, &f.holder);
     let counted = entries_right(&f.holder, &f.entries);
-    if !(held & counted) {
+    let regions_fit = held & counted;
+    if !regions_fit {
         return false;
     }
     let waiting = waiting_right(f.tasks, &f.state, &f.awaits, &f.opened, &f.holder);
     let hold = open_holders_right(f.tasks, &f.state, &f.opened, &f.holder);
-    if !(waiting & hold) {
+    let lines_fit = waiting & hold;
+    if !lines_fit {
         return false;
     }
     let who = elected_now(v, &f.state, &f.priority, &f.awaits, &f.opened, &f.holder);
     let ready = holder_right(f.tasks, &f.state, &f.awaits, v);
-    if !(ready & (f.elected == who)) {
+    let election_fits = ready & (f.elected == who);
+    if !election_fits {
         return false;
     }
     let counts = counts_right(f.tasks, f.regions, f.queues);
     let stores = queues_right(f.queues, &f.bound, &f.length, element, criterion);
     let timers = f.timers;
     let clock = timers_right(f.tasks, f.ticks, timers, &f.state);
-    if !(counts & (stores & clock)) {
+    let stores_fit = counts & (stores & clock);
+    if !stores_fit {
         return false;
     }
     let columns = tasks_right(

@@ -27,15 +27,15 @@ overflow_add-end c =
     let s = counts_small _ _ c.numbers_of-numbers.ensures c.requires.plain_line c.requires.long_and_even _ c.counts_right.ensures c.if-not-counts_right.false in
     record { fits = omega arith }
 
-pub overflow_mul-end : goal.overflow_mul-end
-overflow_mul-end c =
+pub overflow_mul-digits : goal.overflow_mul-digits
+overflow_mul-digits c =
     let s = counts_small _ _ c.numbers_of-numbers.ensures c.requires.plain_line c.requires.long_and_even _ c.counts_right.ensures c.if-not-counts_right.false in
     record { fits = omega arith }
 
-pub returns-then-line-end : goal.returns-then-line-end
-returns-then-line-end c =
-    c.first_refused-then-line-end.ensures
-    ∙ length_refuses _ _ c.numbers_of-numbers.ensures c.requires.plain_line c.requires.long_and_even _ c.counts_right.ensures c.if-not-counts_right.false c.if-line-end.true
+pub returns-then-line-digits : goal.returns-then-line-digits
+returns-then-line-digits c =
+    c.first_refused-then-line-digits.ensures
+    ∙ length_refuses _ _ c.numbers_of-numbers.ensures c.requires.plain_line c.requires.long_and_even _ c.counts_right.ensures c.if-not-counts_right.false c.if-line-digits.true
 
 pub fresh_from-requires : goal.fresh_from-requires
 fresh_from-requires c =
@@ -46,4 +46,4 @@ fresh_from-requires c =
 pub returns : goal.returns
 returns c =
     c.fresh_from.ensures
-    ∙ accepted _ _ c.numbers_of-numbers.ensures c.requires.plain_line c.requires.long_and_even _ c.counts_right.ensures c.if-not-counts_right.false c.if-line-end.false
+    ∙ accepted _ _ c.numbers_of-numbers.ensures c.requires.plain_line c.requires.long_and_even _ c.counts_right.ensures c.if-not-counts_right.false c.if-line-digits.false

@@ -11,13 +11,13 @@ returns-then-k-gt-RETRIEVE c =
     λ es v none.
     refused_timer _ _ _ es v none (sym c.missing_of.ensures ∙ c.if-missing_of.false) (omega (arith, c.if-k-gt-RETRIEVE.true)) c.timer_reason_of.ensures
 
-pub returns-then-k-gt-EXIT : goal.returns-then-k-gt-EXIT
-returns-then-k-gt-EXIT c =
+pub returns-then-about_queues : goal.returns-then-about_queues
+returns-then-about_queues c =
     λ es v none.
-    refused_queue _ _ _ es v none (sym c.missing_of.ensures ∙ c.if-missing_of.false) (omega (arith, c.if-k-gt-EXIT.true)) (omega (arith, c.if-k-gt-RETRIEVE.false))
+    refused_queue _ _ _ es v none (sym c.missing_of.ensures ∙ c.if-missing_of.false) (omega (arith, c.if-about_queues.true)) (omega (arith, c.if-k-gt-RETRIEVE.false))
     c.queue_reason_of.ensures
 
 pub returns : goal.returns
 returns c =
     λ es v none.
-    refused_task _ _ _ es v none (sym c.missing_of.ensures ∙ c.if-missing_of.false) (omega (arith, c.if-k-gt-EXIT.false)) c.task_reason_of.ensures
+    refused_task _ _ _ es v none (sym c.missing_of.ensures ∙ c.if-missing_of.false) (omega (arith, c.if-about_queues.false)) c.task_reason_of.ensures

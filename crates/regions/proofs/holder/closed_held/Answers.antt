@@ -5,18 +5,18 @@ use Rattle.rules.proofs.States.{closed_at, length_closed}
 use Rattle.regions.proofs.Holders.{held_again, held_here, held_end}
 use Rattle.regions.proofs.holder.closed_held.Goals as goal
 
-pub returns-then-h-ne0 : goal.returns-then-h-ne0
-returns-then-h-ne0 c =
+pub returns-then-occupied : goal.returns-then-occupied
+returns-then-occupied c =
     let a = c.args in
     held_here c.loop-i.i (closed_holders a.opened.now a.holder.now) (c.closed_entry-h.ensures ∙ sym (closed_at a.opened.now a.holder.now c.loop-i.i (search rules))) (rw
-    length_closed (search rules)) c.if-h-ne0.true c.loop-i.invariant.1
+    length_closed (search rules)) c.if-occupied.true c.loop-i.invariant.1
 
 pub loop-i-preserved : goal.loop-i-preserved
 loop-i-preserved c =
     let a = c.args in (
       search rules,
       held_again c.loop-i.i (closed_holders a.opened.now a.holder.now) (c.closed_entry-h.ensures ∙ sym (closed_at a.opened.now a.holder.now c.loop-i.i (search rules)))
-          (rw length_closed (search rules)) c.if-h-ne0.false c.loop-i.invariant.1,
+          (rw length_closed (search rules)) c.if-occupied.false c.loop-i.invariant.1,
     )
 
 pub returns : goal.returns

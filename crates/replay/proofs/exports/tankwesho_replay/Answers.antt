@@ -12,17 +12,17 @@ returns-then-block-ne-SIZE-clause-block c = (replay_small c.args.block.now _ _ c
 pub returns-then-block-ne-SIZE-clause-answers : goal.returns-then-block-ne-SIZE-clause-answers
 returns-then-block-ne-SIZE-clause-answers c = (replay_small c.args.block.now _ _ c.if-block-ne-SIZE.true).1.1
 
-pub returns-then-not-unused_zero-clause-count : goal.returns-then-not-unused_zero-clause-count
-returns-then-not-unused_zero-clause-count c =
-    (replay_used c.args.block.now _ _ c.if-block-ne-SIZE.false (sym c.unused_zero.ensures ∙ c.if-not-unused_zero.true)).0
+pub returns-then-used-clause-count : goal.returns-then-used-clause-count
+returns-then-used-clause-count c =
+    (replay_used c.args.block.now _ _ c.if-block-ne-SIZE.false (sym c.unused_zero-used.ensures ∙ c.if-used.true)).0
 
-pub returns-then-not-unused_zero-clause-block : goal.returns-then-not-unused_zero-clause-block
-returns-then-not-unused_zero-clause-block c =
-    (replay_used c.args.block.now _ _ c.if-block-ne-SIZE.false (sym c.unused_zero.ensures ∙ c.if-not-unused_zero.true)).1.0
+pub returns-then-used-clause-block : goal.returns-then-used-clause-block
+returns-then-used-clause-block c =
+    (replay_used c.args.block.now _ _ c.if-block-ne-SIZE.false (sym c.unused_zero-used.ensures ∙ c.if-used.true)).1.0
 
-pub returns-then-not-unused_zero-clause-answers : goal.returns-then-not-unused_zero-clause-answers
-returns-then-not-unused_zero-clause-answers c =
-    (replay_used c.args.block.now _ _ c.if-block-ne-SIZE.false (sym c.unused_zero.ensures ∙ c.if-not-unused_zero.true)).1.1
+pub returns-then-used-clause-answers : goal.returns-then-used-clause-answers
+returns-then-used-clause-answers c =
+    (replay_used c.args.block.now _ _ c.if-block-ne-SIZE.false (sym c.unused_zero-used.ensures ∙ c.if-used.true)).1.1
 
 pub slice_bounds-pack_whole-end : goal.slice_bounds-pack_whole-end
 slice_bounds-pack_whole-end c =
@@ -38,16 +38,16 @@ pub returns-clause-count : goal.returns-clause-count
 returns-clause-count c =
     let table = table_read c.args.block.now c.if-block-ne-SIZE.false c.front_in.ensures c.store_in.ensures.elements c.store_in.ensures.criteria in
     let ran = c.run_log-r.ensures in
-    (replay_done _ _ _ c.if-block-ne-SIZE.false (sym c.unused_zero.ensures ∙ c.if-not-unused_zero.false) table (ran.count, (ran.front, (ran.elements, (ran.criteria, ran.answers)))) c.pack_whole.ensures).0
+    (replay_done _ _ _ c.if-block-ne-SIZE.false (sym c.unused_zero-used.ensures ∙ c.if-used.false) table (ran.count, (ran.front, (ran.elements, (ran.criteria, ran.answers)))) c.pack_whole.ensures).0
 
 pub returns-clause-block : goal.returns-clause-block
 returns-clause-block c =
     let table = table_read c.args.block.now c.if-block-ne-SIZE.false c.front_in.ensures c.store_in.ensures.elements c.store_in.ensures.criteria in
     let ran = c.run_log-r.ensures in
-    (replay_done _ _ _ c.if-block-ne-SIZE.false (sym c.unused_zero.ensures ∙ c.if-not-unused_zero.false) table (ran.count, (ran.front, (ran.elements, (ran.criteria, ran.answers)))) c.pack_whole.ensures).1.0
+    (replay_done _ _ _ c.if-block-ne-SIZE.false (sym c.unused_zero-used.ensures ∙ c.if-used.false) table (ran.count, (ran.front, (ran.elements, (ran.criteria, ran.answers)))) c.pack_whole.ensures).1.0
 
 pub returns-clause-answers : goal.returns-clause-answers
 returns-clause-answers c =
     let table = table_read c.args.block.now c.if-block-ne-SIZE.false c.front_in.ensures c.store_in.ensures.elements c.store_in.ensures.criteria in
     let ran = c.run_log-r.ensures in
-    (replay_done _ _ _ c.if-block-ne-SIZE.false (sym c.unused_zero.ensures ∙ c.if-not-unused_zero.false) table (ran.count, (ran.front, (ran.elements, (ran.criteria, ran.answers)))) c.pack_whole.ensures).1.1
+    (replay_done _ _ _ c.if-block-ne-SIZE.false (sym c.unused_zero-used.ensures ∙ c.if-used.false) table (ran.count, (ran.front, (ran.elements, (ran.criteria, ran.answers)))) c.pack_whole.ensures).1.1

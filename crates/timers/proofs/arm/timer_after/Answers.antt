@@ -4,10 +4,10 @@ use Rattle.rules.specs.Numbers.{ARM}
 use Rattle.timers.specs.Effects.{timer_after}
 use Rattle.timers.proofs.arm.timer_after.Goals as goal
 
-pub returns-then-k-eq-ARM : goal.returns-then-k-eq-ARM
+pub returns-then-arms : goal.returns-then-arms
 unfolding timer_after
-returns-then-k-eq-ARM c = rw (eq-eqb _ ARM c.if-k-eq-ARM.true, ← c.later_by-date.ensures) c.armed_timer.ensures
+returns-then-arms c = rw (eq-eqb _ ARM c.if-arms.true, ← c.later_by-date.ensures) c.armed_timer.ensures
 
 pub returns : goal.returns
 unfolding timer_after
-returns c = rw (ne_eqb _ ARM c.if-k-eq-ARM.false) c.disarmed_timer.ensures
+returns c = rw (ne_eqb _ ARM c.if-arms.false) c.disarmed_timer.ensures

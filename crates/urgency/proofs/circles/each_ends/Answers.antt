@@ -12,13 +12,13 @@ pub loop-i-init : goal.loop-i-init
 unfolding below
 loop-i-init c = search rules
 
-pub returns-then-not-ends_of : goal.returns-then-not-ends_of
+pub returns-then-round : goal.returns-then-round
 unfolding no_circle
-returns-then-not-ends_of c =
-    below_out (ends c.args.awaits.now c.args.holder.now task_room) task_room c.loop-i.i (search rules) (sym c.ends_of.ensures ∙ c.if-not-ends_of.true)
+returns-then-round c =
+    below_out (ends c.args.awaits.now c.args.holder.now task_room) task_room c.loop-i.i (search rules) (sym c.ends_of-round.ensures ∙ c.if-round.true)
 
 pub loop-i-preserved : goal.loop-i-preserved
-loop-i-preserved c = (search rules, below_again _ _ _ _ c.loop-i.invariant.1 (sym (c.if-not-ends_of.false) ∙ c.ends_of.ensures))
+loop-i-preserved c = (search rules, below_again _ _ _ _ c.loop-i.invariant.1 (sym (c.if-round.false) ∙ c.ends_of-round.ensures))
 
 pub returns : goal.returns
 unfolding no_circle

@@ -4,8 +4,8 @@ use Rattle.tables.specs.Fronts.{whole}
 use Rattle.validity.proofs.Checked.{Lengths, length_mapped, Regions, Waiting, Elected, Loops, regions_wrong, waiting_wrong, elected_wrong, loops_wrong, check_is}
 use Rattle.validity.proofs.check.front_valid.Goals as goal
 
-pub returns-then-not-held-counted : goal.returns-then-not-held-counted
-returns-then-not-held-counted c =
+pub returns-then-not-regions_fit : goal.returns-then-not-regions_fit
+returns-then-not-regions_fit c =
     let t = whole c.args.f c.args.element.now c.args.criterion.now in
     let long : Lengths t = search (rules, length_mapped) in
     let regions : Regions t c.closed_bits-v.result c.regions_right-held.result c.entries_right-counted.result = record {
@@ -13,10 +13,10 @@ returns-then-not-held-counted c =
       fit_is = c.regions_right-held.ensures;
       counted_is = c.entries_right-counted.ensures;
     } in
-    regions_wrong t long regions c.if-not-held-counted.true
+    regions_wrong t long regions c.if-not-regions_fit.true
 
-pub returns-then-not-waiting-hold : goal.returns-then-not-waiting-hold
-returns-then-not-waiting-hold c =
+pub returns-then-not-lines_fit : goal.returns-then-not-lines_fit
+returns-then-not-lines_fit c =
     let t = whole c.args.f c.args.element.now c.args.criterion.now in
     let long : Lengths t = search (rules, length_mapped) in
     let regions : Regions t c.closed_bits-v.result c.regions_right-held.result c.entries_right-counted.result = record {
@@ -28,10 +28,10 @@ returns-then-not-waiting-hold c =
       waiting_is = c.waiting_right-waiting.ensures;
       hold_is = c.open_holders_right-hold.ensures;
     } in
-    waiting_wrong t long regions waiting c.if-not-waiting-hold.true
+    waiting_wrong t long regions waiting c.if-not-lines_fit.true
 
-pub returns-then-not-ready-f : goal.returns-then-not-ready-f
-returns-then-not-ready-f c =
+pub returns-then-not-election_fits : goal.returns-then-not-election_fits
+returns-then-not-election_fits c =
     let t = whole c.args.f c.args.element.now c.args.criterion.now in
     let long : Lengths t = search (rules, length_mapped) in
     let regions : Regions t c.closed_bits-v.result c.regions_right-held.result c.entries_right-counted.result = record {
@@ -47,10 +47,10 @@ returns-then-not-ready-f c =
       who_is = c.elected_now-who.ensures;
       ready_is = c.holder_right-ready.ensures;
     } in
-    elected_wrong t long regions waiting elected c.if-not-ready-f.true
+    elected_wrong t long regions waiting elected c.if-not-election_fits.true
 
-pub returns-then-not-counts-stores : goal.returns-then-not-counts-stores
-returns-then-not-counts-stores c =
+pub returns-then-not-stores_fit : goal.returns-then-not-stores_fit
+returns-then-not-stores_fit c =
     let t = whole c.args.f c.args.element.now c.args.criterion.now in
     let long : Lengths t = search (rules, length_mapped) in
     let regions : Regions t c.closed_bits-v.result c.regions_right-held.result c.entries_right-counted.result = record {
@@ -71,7 +71,7 @@ returns-then-not-counts-stores c =
       stores_is = c.queues_right-stores.ensures;
       clock_is = c.timers_right-clock.ensures;
     } in
-    loops_wrong t long regions waiting elected loops c.if-not-counts-stores.true
+    loops_wrong t long regions waiting elected loops c.if-not-stores_fit.true
 
 pub returns : goal.returns
 returns c =
@@ -97,4 +97,4 @@ returns c =
     } in
     check_is t long regions waiting elected loops
     (record { columns_is = c.tasks_right-columns.ensures; criteria_is = c.criteria_right-criteria.ensures })
-    c.if-not-held-counted.false c.if-not-waiting-hold.false c.if-not-ready-f.false c.if-not-counts-stores.false
+    c.if-not-regions_fit.false c.if-not-lines_fit.false c.if-not-election_fits.false c.if-not-stores_fit.false
