@@ -1,5 +1,5 @@
 -- Laws of the rounds: what one leaves, in the terms of all that was read.
-use Prim.Native.Nat.{ℕ, ◌+◌, ◌*◌, ◌-◌, ◌<◌, ◌≤◌, min}
+use Prim.Native.Nat.{ℕ, ◌+◌, ◌*◌, ◌<◌, ◌≤◌, min}
 use mathlib.Core.Path.{◌≡◌, refl, sym, ap, ◌∙◌}
 use mathlib.Core.Bool.{true, false}
 use mathlib.Core.List.{List, [], ◌∷◌, ◌++◌}
@@ -54,19 +54,17 @@ ending_held s rest out room =
     rw (same, fits) (over_held (ending s rest) out)
 
 pub did_end : (s : Standing) (n : ℕ) (old buffer out : List ℕ) → take n buffer ≡ take n old → n ≤ length buffer → answer_length ≤ length out
-    → (written : ℕ) → written ≡ ending_length s (take (n - 0) (drop 0 buffer)) (length out)
-    → (new : List ℕ) → new ≡ placed 0 (ending s (take (n - 0) (drop 0 buffer))) out
+    → (written : ℕ) → written ≡ ending_length s (take n buffer) (length out)
+    → (new : List ℕ) → new ≡ placed 0 (ending s (take n buffer)) out
     → RoundDid s (take n old) (record { standing = s; kept = n; written = written; ended = true }) buffer new
 unfolding round_standing round_left round_answers
 did_end s n old buffer out same fits room written e new k =
-    let all : n - 0 ≡ n = omega arith in
-    let front : take (n - 0) (drop 0 buffer) ≡ take n old = ap (λ m. take m buffer) all ∙ same in
     record {
       part = [];
       ended = refl;
       stands = refl;
       left = front_held n buffer (take n old) fits same;
-      answers = rw (e, k, front) (ending_held s (take n old) out room);
+      answers = rw (e, k, same) (ending_held s (take n old) out room);
     }
 
 -- ---- a part was read
@@ -135,8 +133,8 @@ kept_few s n buffer rounds_left so_far =
 
 module _ (s : Standing) (n : ℕ) (old : List ℕ) (rounds_left : ℕ) (so_far : Reached s n old rounds_left) (r : Round) (buffer out : List ℕ)
     (did : RoundDid s (take n old) r buffer out) where
-  pub reached_again : r.ended ≡ false → 0 < rounds_left → Reached r.standing r.kept buffer (rounds_left - 1)
-  reached_again going more =
+  pub reached_again : r.ended ≡ false → (fewer : ℕ) → fewer + 1 ≡ rounds_left → Reached r.standing r.kept buffer fewer
+  reached_again going fewer more =
       let read = so_far.read in
       let part = did.part in
       let none = eqb-false (length part) 0 (sym did.ended ∙ going) in

@@ -42,37 +42,34 @@ fn round_of(rt: HostRuntime, s: Standing, kept: usize, buffer: &mut [u8], out: &
     let got = rt.stdin().read(&mut buffer[kept..]);
     let n = got.unwrap_or(0);
     if n == 0 {
-        let written = finish(s, &buffer[0..kept], out);
+        let written = finish(s, &buffer[..kept], out);
         return Round {
             standing: s,
-            kept: kept,
-            written: written,
+            kept,
+            written,
             ended: true,
         };
     }
     let p = piece(s, buffer, kept + n, out);
-    let standing = p.standing;
     Round {
-        standing: standing,
+        standing: p.standing,
         kept: p.kept,
         written: p.written,
         ended: false,
     }
 }
 
-// Round after round, each with its answers written. A proved loop has to end, and nothing says that the input does: the rounds are counted
-// down from a number that no run uses up. What a round leaves to be written is promised; that it was written is no value, and so is not.
+// Round after round, each with its answers written. A proved loop has to end, and nothing says that the input does: there are at most so many
+// rounds as no run uses up. What a round leaves to be written is promised; that it was written is no value, and so is not.
 fn run(rt: HostRuntime, buffer: &mut [u8], out: &mut [u8]) -> Reason
     requires { (most_kept < length buffer.old) × (answer_length * length buffer.old ≤ length out.old) }
     ensures { RunEnd result out.new }
 {
     let mut s = at_start();
     let mut kept = 0;
-    let mut rounds = u64::MAX;
-    while 0 < rounds {
+    for _ in 0..u64::MAX {
         let r = round_of(rt, s, kept, buffer, out);
-        let written = r.written;
-        if rt.write_all(&out[0..written]).is_err() {
+        if rt.write_all(&out[..r.written]).is_err() {
             return Reason::Output;
         }
         if r.ended {
@@ -80,7 +77,6 @@ fn run(rt: HostRuntime, buffer: &mut [u8], out: &mut [u8]) -> Reason
         }
         s = r.standing;
         kept = r.kept;
-        rounds = rounds - 1;
     }
     Reason::Rounds
 }
@@ -90,11 +86,10 @@ fn main(rt: HostRuntime) -> ExitCode {
     let mut buffer = [0u8; BUFFER];
     let mut out = [0u8; ANSWER * BUFFER];
     match run(rt, &mut buffer, &mut out) {
-        Reason::Input => ExitCode::SUCCESS,
+        Reason::Input | Reason::Rounds => ExitCode::SUCCESS,
         Reason::Output => {
             let _ = rt.eprintln("bench: an answer could not be written");
             ExitCode::FAILURE
         }
-        Reason::Rounds => ExitCode::SUCCESS,
     }
 }

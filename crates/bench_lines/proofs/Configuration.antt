@@ -1,13 +1,9 @@
 -- Laws of the first line: its numbers, two digits each, and each reason to refuse it.
-use Prim.Native.Nat.{ℕ, zero, suc, ◌+◌, ◌*◌, ◌-◌, ◌/◌, ◌%◌, ◌<◌, ◌≤◌}
-use mathlib.Core.Path.{◌≡◌, refl, sym, ◌∙◌}
-use mathlib.Core.Bool.{Bool, true, false, cond, ◌&&◌, ◌||◌, and-true}
-use mathlib.Core.List.{List, [], ◌∷◌}
-use native.Mathlib.Omega.{arith}
-use lib.Dec.{eqb, ltb, leb}
-use lib.ListN.{length, take, drop, get_or, set, replicate, length-drop}
-use lib.Seq.{take-length, take_all, length-take-le, take-append-le, drop-append-le}
+use Rattle.std.proofs.Common.{ℕ, zero, suc, ◌+◌, ◌*◌, ◌-◌, ◌/◌, ◌%◌, ◌<◌, ◌≤◌, ◌≡◌, refl, sym, ap, ◌∙◌, Bool, true, false, cond, ◌&&◌, ◌||◌, List, [], ◌∷◌, arith, eqb, ltb, leb, length, take, drop, get_or, set, replicate, length-drop, take_all, length-take-le, get_or-take, get_or-drop}
+use mathlib.Core.Bool.{and-true}
+use lib.Seq.{take-length, take-append-le, drop-append-le}
 use borrow.Author.Tests.{lt-ltb, le-leb, eq-eqb, ne_eqb, leb-true, leb-false}
+use Rattle.std.specs.Simd.{first_chunks}
 use Rattle.rules.specs.Numbers.{task_room, priority_end, region_room, queue_room, nobody}
 use Rattle.rules.specs.Words.{all, every, padded}
 use Rattle.rules.specs.Validity.{counts_in_range, bound_in_range, mark_in_range}
@@ -49,6 +45,23 @@ numbers_small (x ∷ y ∷ xs) =
     every_cons (λ n. ltb n priority_end) (value (x ∷ y ∷ [])) (numbers xs)
     (lt-ltb (value (x ∷ y ∷ [])) priority_end (two_digits_small x y))
     (numbers_small xs)
+
+-- the pairs of digits that they are read from
+pair_digit : (k i j : ℕ) (xs : List ℕ) → i < k → j < 2 → get_or (get_or (first_chunks 2 k xs) i []) j 0 ≡ get_or xs (2 * i + j) 0
+pair_digit zero i j xs h l = absurd (omega arith)
+pair_digit (suc k) zero j xs h l = let none : 2 * 0 + j ≡ j = omega arith in rw none (get_or-take 2 xs j 0 l)
+pair_digit (suc k) (suc i) j xs h l =
+    let place : 2 + (2 * i + j) ≡ 2 * suc i + j = omega arith in
+    pair_digit k i j (drop 2 xs) (omega arith) l ∙ get_or-drop 2 xs (2 * i + j) 0 ∙ ap (λ p. get_or xs p 0) place
+
+pub pair_number : (xs : List ℕ) (pairs : List (List ℕ)) → pairs ≡ first_chunks 2 (length xs / 2) xs → (i n : ℕ) → i < length xs / 2
+    → n ≡ digit (get_or (get_or pairs i []) 0 0) * 16 + digit (get_or (get_or pairs i []) 1 0)
+    → n ≡ digit (get_or xs (2 * i) 0) * 16 + digit (get_or xs (2 * i + 1) 0)
+pair_number xs pairs e i n h k =
+    let none : 2 * i + 0 ≡ 2 * i = omega arith in
+    let high = pair_digit (length xs / 2) i 0 xs h (omega arith) in
+    let low = pair_digit (length xs / 2) i 1 xs h (omega arith) in
+    k ∙ rw (e, high, low, none)
 
 -- the array that they are read into
 module _ (line : List ℕ) (i : ℕ) (s : List ℕ) where

@@ -1,14 +1,8 @@
 -- Laws of a later line at a place: a call line that stands there is the line that a reader would find, and any other line asks for nothing.
-use Prim.Native.Nat.{ℕ, zero, suc, ◌+◌, ◌-◌, ◌<◌, ◌≤◌}
-use mathlib.Core.Path.{◌≡◌, refl, sym, ap, ◌∙◌}
-use mathlib.Core.Bool.{Bool, true, false, false≢true, ◌&&◌}
-use mathlib.Core.List.{List, [], ◌∷◌}
-use native.Mathlib.Omega.{arith}
-use native.Mathlib.Nat.{le_of_suc-le-suc}
-use lib.Dec.{eqb, leb}
-use lib.ListN.{length, take, drop, get_or, length-drop}
-use lib.Seq.{get_or-drop, length-take-le}
+use Rattle.std.proofs.Common.{ℕ, zero, suc, ◌+◌, ◌-◌, ◌<◌, ◌≤◌, ◌≡◌, refl, sym, ap, ◌∙◌, Bool, true, false, ◌&&◌, List, [], ◌∷◌, arith, le_of_suc-le-suc, eqb, leb, length, take, drop, get_or, length-drop, get_or-drop, length-take-le, Option, Some, None, option_map}
+use mathlib.Core.Bool.{false≢true}
 use borrow.Author.Tests.{le-leb, eq-eqb, ne_eqb, eqb-true, leb-true}
+use Rattle.rules.specs.declared.Call.{Call}
 use Rattle.rules.specs.Words.{every}
 use Rattle.rules.specs.Queues.{before}
 use Rattle.rules.proofs.Bools.{and_left, and_right, both}
@@ -17,12 +11,11 @@ use Rattle.lines.specs.declared.ends.Line.TheVariants.{Whole, TooLong, Unended, 
 use Rattle.lines.specs.Ends.{line_feed, longest, line_in, line_at, part}
 use Rattle.lines.proofs.Within.{whole_within}
 use Rattle.digits.specs.Digits.{is_digit}
-use Rattle.frames.specs.declared.call.Request.{Request}
 use Rattle.frames.specs.Calls.{call_length, call_in}
-use Rattle.frames.specs.CallLine.{call_line_at, request_for, no_request, request_at}
+use Rattle.frames.specs.CallLine.{call_line_at, request_at}
 use Rattle.bench_lines.specs.First.{plain}
 use Rattle.bench_lines.specs.Steps.{request_in}
-use Rattle.bench_lines.specs.Places.{next_place, later_line_with, request_by, later_line_at}
+use Rattle.bench_lines.specs.Places.{next_place, later_line_with, later_line_by, later_line_at}
 use Rattle.bench_lines.proofs.LineDone.{call_requested}
 
 -- ---- a call line
@@ -74,7 +67,7 @@ module _ (input : List ℕ) (at : ℕ) (c : CallThere input at) where
       let ended : eqb call_length (length (drop at input)) ≡ false = ne_eqb call_length (length (drop at input)) (λ e. omega (arith, c.room)) in
       rw (line_before, some, ended)
 
-  line_requests : request_in (part at (at + call_length) input) ≡ request_for (call_in (part at (at + call_length) input))
+  line_requests : request_in (part at (at + call_length) input) ≡ Some (call_in (part at (at + call_length) input))
   line_requests =
       let same : at + call_length - at ≡ call_length = omega arith in
       let fits : call_length ≤ length (drop at input) = omega (arith, length-drop at input, c.room) in
@@ -84,14 +77,14 @@ module _ (input : List ℕ) (at : ℕ) (c : CallThere input at) where
 
 -- a whole line that is no call line at its place asks for nothing
 pub no_call_line : (input : List ℕ) (at from to next : ℕ) → call_line_at input at ≡ false → line_at input at ≡ Whole from to next
-    → request_in (part from to input) ≡ no_request
+    → request_in (part from to input) ≡ None
 unfolding request_in plain call_line_at
 no_call_line input at from to next other found = go (plain line && eqb (length line) call_length) refl
   where
     line : List ℕ
     line = part from to input
 
-    go : (b : Bool) → (plain line && eqb (length line) call_length) ≡ b → request_in line ≡ no_request
+    go : (b : Bool) → (plain line && eqb (length line) call_length) ≡ b → request_in line ≡ None
     go false e = rw e refl
     go true e =
         let w = whole_within input at from to next (line_at input at) refl found in
@@ -104,44 +97,43 @@ no_call_line input at from to next other found = go (plain line && eqb (length l
         let all : every is_digit (part at (at + call_length) input) ≡ true = rw (w.begins, end) at digits in
         absurd (false≢true (sym other ∙ both fits (both feed all)))
 
--- ---- as the code has it: r is what is asked for at the place
+-- ---- as the code has it: what is asked for at the place, a call or nothing
 
-module _ (input : List ℕ) (at : ℕ) (r : Request) (e : r ≡ request_at input at) where
-  good_there : r.good ≡ true → call_line_at input at ≡ true
+module _ (input : List ℕ) (at : ℕ) where
+  call_asked : (call : Call) → Some call ≡ request_at input at
+      → (call_line_at input at ≡ true) × (call ≡ call_in (part at (at + call_length) input))
   unfolding request_at
-  good_there h = go (call_line_at input at) refl
+  call_asked call e = go (call_line_at input at) refl
     where
-      go : (b : Bool) → call_line_at input at ≡ b → call_line_at input at ≡ true
-      go true k = k
-      go false k = absurd (false≢true (sym (rw k at (ap (λ x. x.good) e)) ∙ h))
+      go : (b : Bool) → call_line_at input at ≡ b → (call_line_at input at ≡ true) × (call ≡ call_in (part at (at + call_length) input))
+      go true k = (k, cc (rw k at e))
+      go false k = absurd (cc (rw k at e))
 
-  not_good : r.good ≡ false → call_line_at input at ≡ false
+  none_asked : None ≡ request_at input at → call_line_at input at ≡ false
   unfolding request_at
-  not_good h = go (call_line_at input at) refl
+  none_asked e = go (call_line_at input at) refl
     where
       go : (b : Bool) → call_line_at input at ≡ b → call_line_at input at ≡ false
-      go true k = absurd (false≢true (sym h ∙ rw k at (ap (λ x. x.good) e)))
+      go true k = absurd (cc (rw k at e))
       go false k = k
 
-  pub later_room : r.good ≡ true → at + suc call_length ≤ length input
-  later_room h = (call_there input at (good_there h)).room
+  pub later_room : (call : Call) → Some call ≡ request_at input at → at + suc call_length ≤ length input
+  later_room call e = (call_there input at (call_asked call e).0).room
 
-  pub later_call : r.good ≡ true → later_line_with r (at + suc call_length) ≡ later_line_at input at
-  unfolding request_at later_line_at
-  later_call h =
-      let there = call_there input at (good_there h) in
-      let is : r ≡ request_for (call_in (part at (at + call_length) input)) = e ∙ rw (good_there h) refl in
+  pub later_call : (call : Call) → Some call ≡ request_at input at → Some (later_line_with (Some call) (at + suc call_length)) ≡ later_line_at input at
+  unfolding later_line_at
+  later_call call e =
+      let there = call_there input at (call_asked call e).0 in
       let place : at + suc call_length ≡ at + call_length + 1 = omega arith in
-      rw (is, place, line_there input at there, line_requests input at there) refl
+      rw ((call_asked call e).1, place, line_there input at there, line_requests input at there) refl
 
-  pub later_other : r.good ≡ false → (l : Line) → l ≡ line_at input at → (n : ℕ) → n ≡ next_place l → later_line_with r n ≡ later_line_at input at
-  unfolding request_at later_line_at
-  later_other h l f n k =
-      let none : r ≡ no_request = e ∙ rw (not_good h) refl in
-      rw (none, k, f) (ap (λ x. later_line_with x (next_place (line_at input at))) (sym (asks (line_at input at) refl)))
-    where
-      asks : (l : Line) → line_at input at ≡ l → request_by input l ≡ no_request
-      asks (Whole from to next) f = no_call_line input at from to next (not_good h) f
-      asks (TooLong next) f = refl
-      asks Unended f = refl
-      asks Nothing f = refl
+  asks : None ≡ request_at input at → (l : Line) → line_at input at ≡ l → later_line_by input l ≡ option_map (later_line_with None) (next_place l)
+  asks e (Whole from to next) f = ap (λ r. Some (later_line_with r next)) (no_call_line input at from to next (none_asked e) f)
+  asks e (TooLong next) f = refl
+  asks e Unended f = refl
+  asks e Nothing f = refl
+
+  pub later_other : None ≡ request_at input at → (l : Line) → l ≡ line_at input at → (o : Option ℕ) → o ≡ next_place l
+      → option_map (later_line_with None) o ≡ later_line_at input at
+  unfolding later_line_at
+  later_other e l f o k = rw (k, f) (sym (asks e (line_at input at) refl))

@@ -1,24 +1,18 @@
 -- Laws of what one line asks for and does: a call line, a later line, a line that is too long.
-use Prim.Native.Nat.{ℕ, ◌<◌}
-use mathlib.Core.Path.{◌≡◌, refl, sym, ◌∙◌}
-use mathlib.Core.Bool.{Bool, true, false, ◌&&◌}
-use mathlib.Core.List.{List}
-use lib.Dec.{eqb}
-use lib.ListN.{length}
+use Rattle.std.proofs.Common.{ℕ, ◌<◌, ◌≡◌, refl, sym, ◌∙◌, Bool, true, false, ◌&&◌, List, Some, eqb, length}
 use borrow.Author.Tests.{lt-leb}
 use Rattle.rules.specs.declared.Table.{Table}
 use Rattle.rules.specs.Words.{every}
 use Rattle.digits.specs.Digits.{is_digit}
 use Rattle.lines.specs.Ends.{longest}
 use Rattle.frames.specs.Calls.{call_length, call_in}
-use Rattle.frames.specs.CallLine.{request_for}
 use Rattle.bench_lines.specs.declared.start.Standing.{Standing}
 use Rattle.bench_lines.specs.First.{plain, first_reasons, first_done}
 use Rattle.bench_lines.specs.Steps.{call_line, too_long, line_done, request_in, request_done}
 
 -- ---- what a line asks for
 
-pub call_requested : (line : List ℕ) → length line ≡ call_length → every is_digit line ≡ true → request_in line ≡ request_for (call_in line)
+pub call_requested : (line : List ℕ) → length line ≡ call_length → every is_digit line ≡ true → request_in line ≡ Some (call_in line)
 unfolding request_in plain
 call_requested line long digits = simp (long, digits)
 

@@ -1,32 +1,44 @@
 -- Laws of what comes before a first line's counts: its characters, its length, an odd number of digits.
-use Prim.Native.Nat.{ℕ, ◌%◌, ◌≤◌}
-use mathlib.Core.Path.{◌≡◌}
-use mathlib.Core.Bool.{Bool, true, false, ◌&&◌, ◌||◌}
-use mathlib.Core.List.{List}
-use lib.Dec.{eqb, ltb, leb}
-use lib.ListN.{length}
-use borrow.Author.Tests.{leb-true}
+use Rattle.std.proofs.Common.{◌≡◌, ℕ, ◌<◌, ◌≤◌, ◌%◌, true, false, ◌||◌, List, length, eqb, ltb, leb}
+use Rattle.std.proofs.Math.Bool.{and-false}
+use borrow.Author.Tests.{leb-true, le-leb, lt-leb, lt-ltb, le-ltb, eq-eqb, ne_eqb}
 use Rattle.rules.specs.Words.{every}
-use Rattle.rules.proofs.Bools.{and_left}
+use Rattle.rules.proofs.Bools.{and_left, or_second}
 use Rattle.digits.specs.Digits.{is_digit}
 use Rattle.lines.specs.Ends.{longest}
 use Rattle.bench_lines.specs.Start.{first_refused}
 use Rattle.bench_lines.specs.First.{plain, first_reasons, first_done}
 
-module _ (line : List ℕ) (ok : Bool) (e : ok ≡ every is_digit line) where
-  pub first_not_plain : (leb (length line) longest && ok) ≡ false → first_refused 21 ≡ first_done line
+-- ---- a line that is refused
+
+module _ (line : List ℕ) where
+  pub first_long : longest < length line → first_refused 21 ≡ first_done line
   unfolding first_done first_reasons plain
-  first_not_plain n = simp (rw e at n)
+  first_long h = simp (lt-leb (length line) longest h)
 
-  pub line_plain : (leb (length line) longest && ok) ≡ true → plain line ≡ true
-  unfolding plain
-  line_plain n = rw e at n
+  pub first_no_digits : every is_digit line ≡ false → first_refused 21 ≡ first_done line
+  unfolding first_done first_reasons plain
+  first_no_digits h = simp (h, and-false)
 
-  pub first_short_or_odd : (leb (length line) longest && ok) ≡ true → (ltb (length line) 6 || eqb (length line % 2) 1) ≡ true
-      → first_refused 21 ≡ first_done line
+  pub first_short_or_odd : plain line ≡ true → (ltb (length line) 6 || eqb (length line % 2) 1) ≡ true → first_refused 21 ≡ first_done line
   unfolding first_done first_reasons
-  first_short_or_odd n l = simp (line_plain n, l)
+  first_short_or_odd p h = simp (p, h)
 
-pub plain_short : (line : List ℕ) → plain line ≡ true → length line ≤ longest
-unfolding plain
-plain_short line h = leb-true (length line) longest (and_left (leb (length line) longest) (every is_digit line) h)
+  pub first_short : plain line ≡ true → length line < 6 → first_refused 21 ≡ first_done line
+  first_short p h = first_short_or_odd p (rw (lt-ltb (length line) 6 h))
+
+  pub first_odd : plain line ≡ true → length line % 2 ≡ 1 → first_refused 21 ≡ first_done line
+  first_odd p h = first_short_or_odd p (or_second (ltb (length line) 6) (eqb (length line % 2) 1) (eq-eqb (length line % 2) 1 h))
+
+  -- ---- a line that isn't
+
+  pub line_plain : length line ≤ longest → every is_digit line ≡ true → plain line ≡ true
+  unfolding plain
+  line_plain h d = simp (le-leb (length line) longest h, d)
+
+  pub long_and_even : 6 ≤ length line → (length line % 2 ≡ 1 → ⊥) → (ltb (length line) 6 || eqb (length line % 2) 1) ≡ false
+  long_and_even h n = simp (le-ltb (length line) 6 h, ne_eqb (length line % 2) 1 n)
+
+  pub plain_short : plain line ≡ true → length line ≤ longest
+  unfolding plain
+  plain_short h = leb-true (length line) longest (and_left (leb (length line) longest) (every is_digit line) h)

@@ -1,14 +1,13 @@
 -- What one line does: the table after it, and its answer.
-use Rattle.std.specs.Prelude.{ℕ, cond, ◌&&◌, List, eqb, length}
+use Rattle.std.specs.Prelude.{ℕ, cond, ◌&&◌, List, eqb, length, Option, Some, None}
 use Rattle.rules.specs.declared.Table.{Table}
 use Rattle.rules.specs.declared.Answer.{Answer}
+use Rattle.rules.specs.declared.Call.{Call}
 use Rattle.rules.specs.declared.Done.{Done}
 use Rattle.rules.specs.Numbers.{nobody}
 use Rattle.rules.specs.Words.{is_zero}
 use Rattle.rules.specs.Step.{step}
-use Rattle.frames.specs.declared.call.Request.{Request}
 use Rattle.frames.specs.Calls.{call_length, call_in}
-use Rattle.frames.specs.CallLine.{request_for, no_request}
 use Rattle.bench_lines.specs.declared.start.Standing.{Standing}
 use Rattle.bench_lines.specs.Start.{first_refused}
 use Rattle.bench_lines.specs.First.{plain, first_done}
@@ -38,8 +37,9 @@ line_done s line = cond s.begun (call_line s.table line) (first_done line)
 
 -- ---- the same in two steps: what a line asks for, and what that does
 
-unfoldable pub request_in : List ℕ → Request
-request_in line = cond (plain line && eqb (length line) call_length) (request_for (call_in line)) no_request
+unfoldable pub request_in : List ℕ → Option Call
+request_in line = cond (plain line && eqb (length line) call_length) (Some (call_in line)) None
 
-unfoldable pub request_done : Table → Request → Done
-request_done t r = cond r.good (step t r.call) (malformed t)
+unfoldable pub request_done : Table → Option Call → Done
+request_done t (Some call) = step t call
+request_done t None = malformed t

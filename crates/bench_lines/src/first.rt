@@ -3,13 +3,14 @@ ghost use Rattle.std.specs.Prelude.{◌≡◌, true, false, ◌||◌, ◌≤◌,
 ghost use Rattle.rules.specs.Words.{padded};
 ghost use Rattle.rules.specs.Fresh.{fresh};
 ghost use Rattle.lines.specs.Ends.{longest, part};
+ghost use Rattle.bench_lines.specs.Start.{done_or_refused};
 ghost use Rattle.bench_lines.specs.First.{number_room, plain, numbers, first_done};
 ghost use Rattle.bench_lines.specs.Places.{first_line_at};
 
 use crate::start::first_refused;
 use digits::{all_digits, two_digits_of};
 use lines::{LONGEST, Line, line_from};
-use rules::Done;
+use rules::{Done, Refusal};
 use tables::{counts_right, fresh};
 
 // The most numbers of two digits that a line may have.
@@ -21,9 +22,9 @@ fn numbers_of(line: &[u8]) -> [u8; NUMBERS]
     ensures { result ≡ padded number_room 0 (numbers line.now) }
 {
     let mut out = [0u8; NUMBERS];
-    let n = line.len() / 2;
-    for i in 0..n {
-        out[i] = two_digits_of(line[2 * i], line[2 * i + 1]);
+    let (pairs, _) = line.as_chunks::<2>();
+    for (i, &[high, low]) in pairs.iter().enumerate() {
+        out[i] = two_digits_of(high, low);
     }
     out
 }
@@ -52,71 +53,60 @@ fn fresh_from(
 }
 
 // What is left to be checked of a plain line of at least six digits and of even length.
-fn configured(line: &[u8]) -> Done
+fn configured(line: &[u8]) -> Result<Done, Refusal>
     requires plain_line { plain line.now ≡ true }
     requires long_and_even { (ltb (length line.now) 6 || eqb (length line.now % 2) 1) ≡ false }
-    ensures { result ≡ first_done line.now }
+    ensures { done_or_refused result ≡ first_done line.now }
 {
     let numbers = numbers_of(line);
-    let tasks = numbers[0];
-    let regions = numbers[1];
-    let queues = numbers[2];
+    let [tasks, regions, queues, ..] = numbers;
     if !counts_right(tasks, regions, queues) {
-        return first_refused(20);
+        return Err(Refusal::OutOfRange);
     }
-    let bounds = 3 + (tasks as usize);
-    let marks = bounds + (queues as usize);
-    let end = marks + (regions as usize);
+    let bounds = 3 + usize::from(tasks);
+    let marks = bounds + usize::from(queues);
+    let end = marks + usize::from(regions);
     let digits = 2 * end;
     if line.len() != digits {
-        return first_refused(21);
+        return Err(Refusal::Malformed);
     }
-    fresh_from(tasks, regions, queues, &numbers, bounds, marks, end)
+    Ok(fresh_from(tasks, regions, queues, &numbers, bounds, marks, end))
 }
 
-// What a first line does, by its characters.
-fn first_done(line: &[u8]) -> Done
-    ensures { result ≡ first_done line.now }
+// What a first line does, by its characters, or why it is refused.
+fn first_done(line: &[u8]) -> Result<Done, Refusal>
+    ensures { done_or_refused result ≡ first_done line.now }
 {
     let n = line.len();
-    let plain = (n <= LONGEST) & all_digits(line);
-    if !plain {
-        return first_refused(21);
+    if LONGEST < n || !all_digits(line) {
+        return Err(Refusal::Malformed);
     }
-    if (n < 6) | (n % 2 == 1) {
-        return first_refused(21);
+    if n < 6 || n % 2 == 1 {
+        return Err(Refusal::Malformed);
     }
     configured(line)
 }
 
-// What the first line does. `next` is 0 where no line is ended: behind a line there is at least its line feed.
+// What the first line does, and the place behind its line feed.
 #[derive(Clone, Copy)]
 pub struct FirstLine {
     pub done: Done,
     pub next: usize,
 }
 
-// The first line of a session. Where it is not ended, `done` is of no use to anybody: the line gets its answer once it is.
-pub fn first_line_at(input: &[u8]) -> FirstLine
+// The first line of a session, where it is ended: it gets its answer once it is.
+pub fn first_line_at(input: &[u8]) -> Option<FirstLine>
     ensures { result ≡ first_line_at input.now }
 {
-    let line = line_from(input, 0);
-    match line {
-        Line::Whole { start, end, next } => FirstLine {
-            done: first_done(&input[start..end]),
-            next: next,
-        },
-        Line::TooLong { next } => FirstLine {
-            done: first_refused(21),
-            next: next,
-        },
-        Line::Unended => FirstLine {
-            done: first_refused(21),
-            next: 0,
-        },
-        Line::Nothing => FirstLine {
-            done: first_refused(21),
-            next: 0,
-        },
+    match line_from(input, 0) {
+        Line::Whole { start, end, next } => Some(FirstLine {
+            done: first_done(&input[start..end]).unwrap_or_else(first_refused),
+            next,
+        }),
+        Line::TooLong { next } => Some(FirstLine {
+            done: first_refused(Refusal::Malformed),
+            next,
+        }),
+        Line::Unended | Line::Nothing => None,
     }
 }

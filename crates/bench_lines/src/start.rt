@@ -1,10 +1,11 @@
 // How a session begins: where it stands before the first line, what a refused first line leaves, and the answer of a malformed line.
 ghost use Rattle.std.specs.Prelude.{◌≡◌};
 ghost use Rattle.rules.specs.Fresh.{zero_table};
+ghost use Rattle.rules.specs.Statuses.{number_of};
 ghost use Rattle.bench_lines.specs.Start.{start, first_refused};
 ghost use Rattle.bench_lines.specs.Steps.{malformed_answer};
 
-use rules::{Answer, Done, NOBODY, Table};
+use rules::{Answer, Done, NOBODY, Refusal, Table};
 use tables::fresh;
 
 // Where a session stands: its table, the table of zeros at the start, and whether the first line has come.
@@ -18,8 +19,7 @@ pub struct Standing {
 fn zeros() -> Table
     ensures { result ≡ zero_table }
 {
-    let d = fresh(0, 0, 0, b"", b"", b"");
-    d.table
+    fresh(0, 0, 0, b"", b"", b"").table
 }
 
 // Before the first line.
@@ -32,18 +32,13 @@ pub fn at_start() -> Standing
     }
 }
 
-pub(crate) fn first_refused(status: u8) -> Done
-    ensures { result ≡ first_refused status }
+// What a refused first line leaves: the table of zeros, and nobody elected.
+pub(crate) fn first_refused(reason: Refusal) -> Done
+    ensures { result ≡ first_refused (number_of reason) }
 {
     Done {
         table: zeros(),
-        answer: Answer {
-            status: status,
-            value: 0,
-            key: 0,
-            elected: NOBODY,
-            displaced: NOBODY,
-        },
+        answer: Answer::plain(reason.number(), NOBODY),
     }
 }
 
@@ -53,11 +48,5 @@ pub fn malformed_answer(tasks: u8, elected: u8) -> Answer
     ensures { result ≡ malformed_answer tasks elected }
 {
     let who = if tasks == 0 { NOBODY } else { elected };
-    Answer {
-        status: 21,
-        value: 0,
-        key: 0,
-        elected: who,
-        displaced: NOBODY,
-    }
+    Answer::plain(Refusal::Malformed.number(), who)
 }

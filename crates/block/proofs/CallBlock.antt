@@ -1,11 +1,6 @@
 -- What comes of a call on a block: refused before the table is looked at, refused by the rules, or done.
-use Prim.Native.Nat.{ℕ, ◌<◌, ◌≤◌}
-use mathlib.Core.Path.{◌≡◌, refl, sym, ap, ap₂, subst, ◌∙◌}
-use mathlib.Core.Bool.{Bool, true, false, cond, ◌||◌}
-use mathlib.Core.List.{List}
-use native.Mathlib.Omega.{arith}
-use lib.Dec.{eqb}
-use lib.ListN.{length, get_or, replicate, length-replicate}
+use Rattle.std.proofs.Common.{ℕ, ◌<◌, ◌≤◌, ◌≡◌, refl, sym, ap, ap₂, subst, ◌∙◌, Bool, true, false, cond, ◌||◌, List, arith, eqb, length, get_or, replicate}
+use lib.ListN.{length-replicate}
 use Rattle.rules.specs.declared.Table.{Table}
 use Rattle.rules.specs.declared.Call.{Call}
 use Rattle.rules.specs.declared.Done.{Done}
@@ -172,3 +167,6 @@ module _ (block : List ℕ) (k : Call) (unused : Bool) (f : Front) (es cs es' cs
       in
       rw (looked, accepted low)
       (w ∙ front_back d.front block (all_bytes block small) size (subst Sized (sym together) after_sized) ∙ ap packed together)
+
+-- what is no table, what is refused, and what is done
+pub ruleset on_a_block = (call_small, call_used, call_answer, refused_stored, whole_stored, front_stored)

@@ -1,9 +1,5 @@
 -- What comes of making a block fresh: refused by its size, or made.
-use Prim.Native.Nat.{ℕ}
-use mathlib.Core.Path.{◌≡◌, refl, ap, ◌∙◌}
-use mathlib.Core.List.{List}
-use lib.ListN.{length}
-use borrow.Author.Tests.{eq-eqb, ne_eqb}
+use Rattle.std.proofs.Common.{ℕ, ◌≡◌, refl, ap, ◌∙◌, List, length, eq-eqb, ne_eqb}
 use Rattle.rules.specs.declared.Done.{Done}
 use Rattle.rules.specs.Fresh.{fresh}
 use Rattle.packing.specs.Answers.{answer_number}

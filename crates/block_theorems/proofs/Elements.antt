@@ -1,12 +1,6 @@
 -- What stands in the queues stays in range: elements of 32 bits come in by SEND alone, and RETRIEVE gives one of them.
-use Prim.Native.Nat.{ℕ, ◌<◌}
-use mathlib.Core.Path.{◌≡◌, refl}
-use mathlib.Core.Bool.{Bool, true, false, cond}
-use mathlib.Core.List.{List, [], ◌∷◌}
-use native.Mathlib.Omega.{arith}
-use lib.Dec.{ltb}
+use Rattle.std.proofs.Common.{ℕ, ◌<◌, ◌≡◌, refl, Bool, true, false, cond, List, [], ◌∷◌, arith, ltb, ltb-true, lt-ltb}
 use lib.ListN.{get_or-map}
-use borrow.Author.Tests.{ltb-true, lt-ltb}
 use Rattle.rules.specs.declared.Table.{Table}
 use Rattle.rules.specs.declared.Call.{Call}
 use Rattle.rules.specs.Numbers.{criterion_end, SEND}

@@ -1,13 +1,9 @@
 -- Everything in a valid table fits its bytes, if the elements do.
-use Prim.Native.Nat.{ℕ, zero, suc, ◌^◌, ◌<◌, ◌≤◌}
-use mathlib.Core.Path.{◌≡◌, refl}
-use mathlib.Core.Bool.{Bool, true, false, ◌&&◌, false≢true}
-use mathlib.Core.List.{List, [], ◌∷◌}
-use native.Mathlib.Omega.{arith}
+use Rattle.std.proofs.Common.{ℕ, zero, suc, ◌^◌, ◌<◌, ◌≤◌, ◌≡◌, refl, Bool, true, false, ◌&&◌, List, [], ◌∷◌, arith, ltb, eqb, leb, get_or, length, eqb-true, ltb-true, ltb-false, leb-true, lt-ltb}
+use mathlib.Core.Bool.{false≢true}
 use native.Mathlib.Nat.{one-le-pow}
-use lib.Dec.{ltb, eqb, leb}
-use lib.ListN.{get_or, length, get_or-eq_default}
-use borrow.Author.Tests.{eqb-true, eqb-false, ltb-true, ltb-false, leb-true, lt-ltb}
+use lib.ListN.{get_or-eq_default}
+use borrow.Author.Tests.{eqb-false}
 use Rattle.rules.specs.declared.Timer.{Timer}
 use Rattle.rules.specs.declared.Table.{Table}
 use Rattle.rules.specs.Numbers.{task_room, region_room, most_entries, queue_room, places, store_size, criterion_end, event_end, timer_room, tick_end, nobody}

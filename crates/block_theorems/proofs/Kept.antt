@@ -1,13 +1,6 @@
 -- An accepted block stays accepted, a refused call leaves its bytes, and what making fresh writes.
-use Prim.Native.Nat.{ℕ, ◌<◌, ◌≤◌}
-use mathlib.Core.Path.{◌≡◌, refl, sym, ap, ◌∙◌, subst}
-use mathlib.Core.Logic.{◌≢◌}
-use mathlib.Core.Bool.{Bool, true, false, cond}
-use mathlib.Core.List.{List}
-use native.Mathlib.Omega.{arith}
-use lib.Dec.{eqb}
-use lib.ListN.{length, replicate}
-use borrow.Author.Tests.{eqb-false, ltb-true}
+use Rattle.std.proofs.Common.{ℕ, ◌<◌, ◌≤◌, ◌≡◌, refl, sym, ap, ◌∙◌, subst, ◌≢◌, Bool, true, false, cond, List, arith, eqb, length, replicate, ltb-true}
+use borrow.Author.Tests.{eqb-false}
 use Rattle.rules.specs.declared.Table.{Table}
 use Rattle.rules.specs.declared.Call.{Call}
 use Rattle.rules.specs.Numbers.{store_size, nobody, SEND}
@@ -22,7 +15,7 @@ use Rattle.rules.proofs.Bools.{given}
 use Rattle.rules.proofs.Lists.{every_replicate}
 use Rattle.theorems.proofs.Kept.{valid_kept}
 use Rattle.theorems.proofs.Fresh.{fresh_valid}
-use Rattle.packing.specs.Bytes.{bytes, spread}
+use Rattle.packing.specs.Bytes.{values_bytes, bytes, spread}
 use Rattle.packing.specs.Timers.{timer_bytes, timers_bytes}
 use Rattle.layout.specs.Layout.{block_size, unpacked, packed, is_table}
 use Rattle.packing.specs.Answers.{answer_number}
@@ -90,7 +83,7 @@ untouched_block block c small l = go (is_table block) refl
 -- ---- made fresh
 
 zeros_packed : packed zero_table ≡ replicate block_size 0
-unfolding packed bytes spread timers_bytes timer_bytes zero_table
+unfolding packed bytes values_bytes timer_bytes zero_table
 zeros_packed = refl
 
 module _ (block : List ℕ) (tasks regions queues : ℕ) (priorities bounds marks : List ℕ) where

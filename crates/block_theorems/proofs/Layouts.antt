@@ -1,19 +1,12 @@
 -- The layout part by part: a table that fits its bytes comes back from its block, and a block of the right size comes back from its table.
-use Prim.Native.Nat.{ℕ, zero, suc, ◌+◌, ◌*◌, ◌<◌}
-use mathlib.Core.Path.{◌≡◌, refl, sym, ap, ◌∙◌}
-use mathlib.Core.Bool.{true}
-use mathlib.Core.List.{List, [], ◌∷◌, ◌++◌, map, append_assoc, append-nil}
-use native.Mathlib.Omega.{arith}
-use native.Mathlib.Nat.{mod-eq_of_lt}
-use lib.ListN.{get_or, length, take, drop, length-append}
-use lib.Seq.{drop-append-add, get_or-drop}
-use borrow.Author.Tests.{ltb-true, eq-eqb}
+use Rattle.std.proofs.Common.{ℕ, zero, suc, ◌+◌, ◌*◌, ◌<◌, ◌≡◌, refl, sym, ap, ◌∙◌, true, List, [], ◌∷◌, ◌++◌, map, append_assoc, append-nil, arith, mod-eq_of_lt, get_or, length, take, drop, length-append, get_or-drop, ltb-true, eq-eqb}
+use lib.Seq.{drop-append-add}
 use Rattle.rules.specs.declared.Table.{Table}
 use Rattle.rules.specs.Numbers.{task_room, region_room, queue_room, store_size, timer_room}
 use Rattle.rules.specs.Words.{every}
 use Rattle.rules.proofs.Lists.{every_both, every_cons, every_nil}
 use Rattle.rules.proofs.Counts.{below_all}
-use Rattle.packing.specs.Bytes.{half_width, word_width, bytes, spread}
+use Rattle.packing.specs.Bytes.{values_bytes, half_width, word_width, bytes, spread}
 use Rattle.packing.specs.Timers.{timer_width, unused_place, timers_in, timers_bytes}
 use Rattle.packing.proofs.RoundTrips.{fits, bytes_length, bytes_small, spread_length, spread_small, numbers_spread, timers_length, timers_small, timers_read, timers_unused}
 use Rattle.layout.specs.Layout.{priority_place, state_place, arrived_place, list_place, operator_place, awaits_place, holder_place, entries_place, opened_place, bound_place, length_place, element_place, criterion_place, ticks_place, timers_place, block_size, part, unpacked, packed, unused_zero}
@@ -187,7 +180,7 @@ same_table u t a b c d e f g h i w j q v k l m n o p =
 
 module _ (t : Table) (s : Sized t) (f : Fitting t) where
   ticks_read : get_or (part ticks_place word_width 1 (packed t)) 0 0 ≡ t.ticks
-  unfolding bytes spread
+  unfolding bytes values_bytes
   ticks_read = ap (λ ns. get_or ns 0 0) (column_read word_width 1 ticks_place (packed t) (t.ticks ∷ []) _ (from t s 17) refl ticks_fit)
     where
       ticks_fit : every (fits word_width) (t.ticks ∷ []) ≡ true

@@ -1,11 +1,6 @@
 -- The two round trips: a valid table through its block, and an accepted block through its table.
-use Prim.Native.Nat.{ℕ, ◌<◌}
-use mathlib.Core.Path.{◌≡◌, refl}
-use mathlib.Core.Bool.{Bool, true, false}
-use mathlib.Core.List.{List}
-use native.Mathlib.Omega.{arith}
-use lib.ListN.{drop, replicate, get_or-replicate}
-use borrow.Author.Tests.{eqb-true, eq-eqb, ltb-true}
+use Rattle.std.proofs.Common.{ℕ, ◌<◌, ◌≡◌, refl, Bool, true, false, List, arith, drop, replicate, eqb-true, eq-eqb, ltb-true}
+use lib.ListN.{get_or-replicate}
 use Rattle.rules.specs.Numbers.{store_size}
 use Rattle.rules.specs.Validity.{counts_in_range}
 use Rattle.rules.proofs.Bools.{given, shown}

@@ -1,17 +1,20 @@
 -- What a call does to a store that is lent, and the parts of a table put together again.
-use Rattle.std.proofs.Common.{◌≡◌, ℕ, Bool, true, false, ◌||◌, eqb, ◌≢◌, List, sym, refl, ap, ne_eqb}
+use Rattle.std.proofs.Common.{◌≡◌, ℕ, Bool, true, false, ◌||◌, eqb, ◌≢◌, List, sym, refl, ap, subst, ne_eqb}
 use Rattle.rules.specs.declared.Table.{Table}
 use Rattle.rules.specs.declared.Call.{Call}
+use Rattle.rules.specs.declared.Command.{Command}
 use Rattle.rules.specs.declared.Done.{Done}
 use Rattle.rules.specs.Numbers.{SEND, RETRIEVE}
+use Rattle.rules.specs.Commands.{its_call}
 use Rattle.rules.specs.Words.{is_zero}
 use Rattle.rules.specs.Refusals.{refusal}
 use Rattle.rules.specs.Step.{step}
 use Rattle.rules.proofs.Effects.{contents_kept}
 use Rattle.tables.specs.declared.front.Front.{Front}
+use Rattle.tables.specs.declared.front.Store.{Store}
 use Rattle.tables.specs.declared.front.FrontDone.{FrontDone}
-use Rattle.tables.specs.Fronts.{whole, front_of, front_done}
-use Rattle.calls.specs.Steps.{IsStep}
+use Rattle.tables.specs.Fronts.{whole, front_of, store_of, front_done}
+use Rattle.calls.specs.Steps.{IsStep, StepAccepted, FrontStep}
 
 -- only SEND and RETRIEVE change the store
 pub step_contents : (t : Table) (c : Call) → (eqb c.operation SEND || eqb c.operation RETRIEVE) ≡ false
@@ -34,11 +37,24 @@ front_parts f es cs c n m p =
     let same = step_contents (whole f es cs) c (rw (ne_eqb c.operation SEND n, ne_eqb c.operation RETRIEVE m) refl) in
     (p, (sym same.0, sym same.1))
 
+-- what is promised of an accepted command is the step of the call that it was read from
+pub step_read : (t : Table) (k : Call) (o : Command) → its_call o ≡ k → 0 ≡ refusal t k
+    → {d : FrontDone} {es cs : List ℕ} → StepAccepted t (its_call o) d es cs → IsStep t k d es cs
+step_read t k o e z {d} {es} {cs} p =
+    let P : Call → Type 0 = λ c. 0 ≡ refusal t c → IsStep t c d es cs in
+    subst P e (λ y. p (sym y)) z
+
+-- the same of one that leaves the store as it is
+pub front_read : (f : Front) (es cs : List ℕ) (k : Call) (o : Command) → its_call o ≡ k → 0 ≡ refusal (whole f es cs) k
+    → (its_call o).operation ≢ SEND → (its_call o).operation ≢ RETRIEVE
+    → {d : FrontDone} → FrontStep f (its_call o) d → IsStep (whole f es cs) k d es cs
+front_read f es cs k o e z n m p = step_read (whole f es cs) k o e z (λ a. front_parts f es cs (its_call o) n m (p es cs a))
+
 -- a call on the parts of a table is the call on the table
-pub put_together : (t : Table) (c : Call) (f : Front) → f ≡ front_of t
-    → (d : FrontDone) → d ≡ front_done (step (whole f t.element t.criterion) c)
-    → (es : List ℕ) → es ≡ (step (whole f t.element t.criterion) c).table.element
-    → (cs : List ℕ) → cs ≡ (step (whole f t.element t.criterion) c).table.criterion
+pub put_together : (t : Table) (c : Call) (f : Front) → f ≡ front_of t → (s : Store) → s ≡ store_of t
+    → (d : FrontDone) → d ≡ front_done (step (whole f s.element s.criterion) c)
+    → (es : List ℕ) → es ≡ (step (whole f s.element s.criterion) c).table.element
+    → (cs : List ℕ) → cs ≡ (step (whole f s.element s.criterion) c).table.criterion
     → (u : Table) → u ≡ whole d.front es cs
     → record { table = u; answer = d.answer } ≡ step t c
-put_together t c f a d b es e cs g u h = rw (h, e, g, b, a) refl
+put_together t c f a s p d b es e cs g u h = rw (h, e, g, b, a, p) refl

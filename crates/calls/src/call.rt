@@ -1,6 +1,5 @@
 // One call on a table whose store is lent: refused with the first reason that applies, or done by its kind.
-ghost use Rattle.std.specs.Prelude.{◌≡◌, length};
-ghost use Rattle.rules.specs.Numbers.{store_size};
+ghost use Rattle.std.specs.Prelude.{◌≡◌};
 ghost use Rattle.rules.specs.Step.{step};
 ghost use Rattle.tables.specs.Fronts.{whole, front_done};
 ghost use Rattle.calls.specs.Steps.{StepAssuming};
@@ -9,74 +8,47 @@ use crate::queue::{retrieve_call, send_call};
 use crate::region::{enter_call, exit_call};
 use crate::task::task_call;
 use crate::timer::{tick_call, timer_call};
-use refusals::{refusal_of, reported_by};
-use rules::{Answer, Call, ENTER, NOBODY, RETRIEVE, SEND, STORE, TICK};
-use tables::{Front, FrontDone};
+use refusals::{refusal_of, refused_by};
+use rules::{Call, Operation};
+use tables::{Front, FrontDone, Store};
 use validity::front_valid;
 
 // `valid` says whether the table is valid: whoever makes many calls on one table need not look at it each time, since a call leaves a valid
 // table valid. Told the truth, this is the step of the rules; told a lie, it is safe, and what comes out is of no use. The front goes straight
 // to the function for the kind of call and straight back: each further pass of it would copy it.
-pub fn call_assuming(
-    f: Front,
-    valid: bool,
-    k: Call,
-    element: &mut [u32; STORE],
-    criterion: &mut [u8; STORE],
-) -> FrontDone
-    requires element_len { length element.old ≡ store_size }
-    requires criterion_len { length criterion.old ≡ store_size }
-    ensures { StepAssuming valid (whole f element.old criterion.old) k result element.new criterion.new }
+pub fn call_assuming(f: Front, valid: bool, k: Call, store: &mut Store) -> FrontDone
+    ensures { StepAssuming valid (whole f store.old.element store.old.criterion) k result store.new.element store.new.criterion }
 {
-    let status = refusal_of(valid, f, criterion, k);
-    let refused = status != 0;
-    if refused {
-        return FrontDone {
-            front: f,
-            answer: Answer {
-                status: status,
-                value: 0,
-                key: 0,
-                elected: reported_by(status, f.elected),
-                displaced: NOBODY,
-            },
-        };
+    let command = match refusal_of(valid, &f, store, k) {
+        Ok(command) => command,
+        Err(reason) => {
+            return FrontDone {
+                front: f,
+                answer: refused_by(reason, f.elected),
+            };
+        }
+    };
+    match command.operation {
+        Operation::Start
+        | Operation::Stop
+        | Operation::End
+        | Operation::Signal
+        | Operation::Wait
+        | Operation::Clear => task_call(f, command),
+        Operation::Enter => enter_call(f, command),
+        Operation::Exit => exit_call(f, command),
+        Operation::Send => send_call(f, command, store),
+        Operation::Retrieve => retrieve_call(f, command, store),
+        Operation::Arm | Operation::Disarm => timer_call(f, command),
+        Operation::Tick => tick_call(f),
     }
-    let operation = k.operation;
-    if operation < ENTER {
-        return task_call(f, k);
-    }
-    if operation == ENTER {
-        return enter_call(f, k);
-    }
-    if operation < SEND {
-        return exit_call(f, k);
-    }
-    let sends = operation == SEND;
-    if sends {
-        return send_call(f, k, element, criterion);
-    }
-    if operation == RETRIEVE {
-        return retrieve_call(f, k, element, criterion);
-    }
-    if operation < TICK {
-        return timer_call(f, k);
-    }
-    tick_call(f)
 }
 
-pub fn call_checked(
-    f: Front,
-    k: Call,
-    element: &mut [u32; STORE],
-    criterion: &mut [u8; STORE],
-) -> FrontDone
-    requires element_len { length element.old ≡ store_size }
-    requires criterion_len { length criterion.old ≡ store_size }
-    ensures front { result ≡ front_done (step (whole f element.old criterion.old) k) }
-    ensures elements { element.new ≡ (step (whole f element.old criterion.old) k).table.element }
-    ensures criteria { criterion.new ≡ (step (whole f element.old criterion.old) k).table.criterion }
+pub fn call_checked(f: Front, k: Call, store: &mut Store) -> FrontDone
+    ensures front { result ≡ front_done (step (whole f store.old.element store.old.criterion) k) }
+    ensures elements { store.new.element ≡ (step (whole f store.old.element store.old.criterion) k).table.element }
+    ensures criteria { store.new.criterion ≡ (step (whole f store.old.element store.old.criterion) k).table.criterion }
 {
-    let valid = front_valid(f, element, criterion);
-    call_assuming(f, valid, k, element, criterion)
+    let valid = front_valid(&f, store);
+    call_assuming(f, valid, k, store)
 }

@@ -1,6 +1,7 @@
 // One call on a table whose store is lent: refused with the first reason that applies, or done by its kind.
 #![tactic(auto)]
 
+mod afresh;
 mod call;
 mod queue;
 mod region;

@@ -1,72 +1,55 @@
 // SEND and RETRIEVE, once accepted: one queue changes, in a store that is lent. Neither tasks nor holders change, so that nobody is elected
-// afresh. Of an accepted call the remainders change nothing: they keep the places in range where it was told a lie about the table.
+// afresh. Of an accepted call the remainders change nothing: they keep the places in range where it was told a lie about the table, and so does the way out where nothing is found.
 ghost use Rattle.std.specs.Prelude.{◌≡◌, length};
-ghost use Rattle.rules.specs.Numbers.{store_size, SEND, RETRIEVE};
+ghost use Rattle.rules.specs.Numbers.{SEND, RETRIEVE};
 ghost use Rattle.tables.specs.Fronts.{whole};
+ghost use Rattle.rules.specs.Commands.{its_call, operation_number};
 ghost use Rattle.calls.specs.Steps.{StepAccepted};
 
-use queues::{close_criteria, close_elements, place_of};
-use rules::{Answer, Call, NOBODY, PLACES, QUEUES, STORE};
-use tables::{Front, FrontDone};
+use queues::{close_gap, place_of};
+use rules::{Answer, Command, PLACES, QUEUES, STORE};
+use tables::{Front, FrontDone, Store};
 
-pub(crate) fn send_call(
-    mut t: Front,
-    k: Call,
-    element: &mut [u32; STORE],
-    criterion: &mut [u8; STORE],
-) -> FrontDone
-    requires element_len { length element.old ≡ store_size }
-    requires criterion_len { length criterion.old ≡ store_size }
-    requires operation_value { k.operation ≡ SEND }
-    ensures { StepAccepted (whole t element.old criterion.old) k result element.new criterion.new }
+pub(crate) fn send_call(mut t: Front, k: Command, store: &mut Store) -> FrontDone
+    requires { operation_number k.operation ≡ SEND }
+    ensures { StepAccepted (whole t store.old.element store.old.criterion) (its_call k) result store.new.element store.new.criterion }
 {
     let at = (k.a as usize) % QUEUES;
     let n = t.length[at];
     let end = (at * PLACES + (n as usize)) % STORE;
-    element[end] = k.b;
-    criterion[end] = (k.c % 256) as u8;
-    t.length[at] = std::num::wrapping_add_u8(n, 1);
+    store.element[end] = k.b;
+    store.criterion[end] = (k.c % 256) as u8;
+    t.length[at] = n.wrapping_add(1);
     FrontDone {
         front: t,
-        answer: Answer {
-            status: 0,
-            value: 0,
-            key: 0,
-            elected: t.elected,
-            displaced: NOBODY,
-        },
+        answer: Answer::plain(0, t.elected),
     }
 }
 
-pub(crate) fn retrieve_call(
-    mut t: Front,
-    k: Call,
-    element: &mut [u32; STORE],
-    criterion: &mut [u8; STORE],
-) -> FrontDone
-    requires element_len { length element.old ≡ store_size }
-    requires criterion_len { length criterion.old ≡ store_size }
-    requires operation_value { k.operation ≡ RETRIEVE }
-    ensures { StepAccepted (whole t element.old criterion.old) k result element.new criterion.new }
+pub(crate) fn retrieve_call(mut t: Front, k: Command, store: &mut Store) -> FrontDone
+    requires { operation_number k.operation ≡ RETRIEVE }
+    ensures { StepAccepted (whole t store.old.element store.old.criterion) (its_call k) result store.new.element store.new.criterion }
 {
     let at = (k.a as usize) % QUEUES;
     let n = t.length[at];
     let from = at * PLACES;
     let end = from + (n as usize);
-    let place = place_of(criterion, from, end, k.c) % STORE;
-    let value = element[place];
-    let key = criterion[place];
-    close_elements(element, place, end);
-    close_criteria(criterion, place, end);
-    t.length[at] = std::num::wrapping_add_u8(n, 255);
+    let Some(place) = place_of(&store.criterion, from, end, k.c) else {
+        return FrontDone {
+            front: t,
+            answer: Answer::plain(0, t.elected),
+        };
+    };
+    let value = store.element[place];
+    let key = store.criterion[place];
+    close_gap(store, place, end);
+    t.length[at] = n.wrapping_sub(1);
     FrontDone {
         front: t,
         answer: Answer {
-            status: 0,
-            value: value,
-            key: key,
-            elected: t.elected,
-            displaced: NOBODY,
+            value,
+            key,
+            ..Answer::plain(0, t.elected)
         },
     }
 }

@@ -2,82 +2,31 @@
 // call that was told a lie.
 ghost use Rattle.std.specs.Prelude.{◌<◌, ◌≤◌};
 ghost use Rattle.rules.specs.Numbers.{ARM, TICK};
+ghost use Rattle.rules.specs.Commands.{its_call, operation_number};
 ghost use Rattle.calls.specs.Steps.{FrontStep, TickStep};
 
-use regions::closed_held;
-use rules::{Answer, Call, NOBODY, TIMERS};
+use crate::afresh::elect_afresh;
+use rules::{Answer, Call, Command, TIMERS};
 use tables::{Front, FrontDone};
-use timers::{Rows, later_by, rung_all, rung_rows, timer_after};
-use urgency::elect_now;
+use timers::{tick, timer_after};
 
-pub(crate) fn timer_call(mut t: Front, k: Call) -> FrontDone
-    requires le_operation { ARM ≤ k.operation }
-    requires operation_bound { k.operation < TICK }
-    ensures { FrontStep t k result }
+pub(crate) fn timer_call(mut t: Front, k: Command) -> FrontDone
+    requires from_arm { ARM ≤ operation_number k.operation }
+    requires before_tick { operation_number k.operation < TICK }
+    ensures { FrontStep t (its_call k) result }
 {
     let at = (k.a as usize) % TIMERS;
-    let ticks = t.ticks;
-    t.timers[at] = timer_after(k, ticks, t.timers[at]);
+    t.timers[at] = timer_after(Call::from(k), t.ticks, t.timers[at]);
     FrontDone {
         front: t,
-        answer: Answer {
-            status: 0,
-            value: 0,
-            key: 0,
-            elected: t.elected,
-            displaced: NOBODY,
-        },
+        answer: Answer::plain(0, t.elected),
     }
 }
 
 pub(crate) fn tick_call(mut t: Front) -> FrontDone
     ensures { TickStep t result }
 {
-    let now = later_by(t.ticks, 1);
-    let timers = t.timers;
-    let state = t.state;
-    let arrived = t.arrived;
-    let list = t.list;
-    let operator = t.operator;
-    let rows = rung_rows(
-        now,
-        timers,
-        Rows {
-            state: state,
-            arrived: arrived,
-            list: list,
-            operator: operator,
-        },
-    );
-    let state = rows.state;
-    let arrived = rows.arrived;
-    let list = rows.list;
-    let operator = rows.operator;
-    t.state = state;
-    t.arrived = arrived;
-    t.list = list;
-    t.operator = operator;
-    t.timers = rung_all(now, timers);
-    t.ticks = now;
-    let v = closed_held(&t.opened, &t.holder);
-    let next = elect_now(
-        t.elected,
-        v,
-        &t.state,
-        &t.priority,
-        &t.awaits,
-        &t.opened,
-        &t.holder,
-    );
-    t.elected = next.task;
-    FrontDone {
-        front: t,
-        answer: Answer {
-            status: 0,
-            value: 0,
-            key: 0,
-            elected: t.elected,
-            displaced: next.displaced,
-        },
-    }
+    tick(&mut t);
+    let answer = elect_afresh(&mut t, 0);
+    FrontDone { front: t, answer }
 }

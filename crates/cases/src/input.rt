@@ -1,12 +1,12 @@
 // The input of a case, put together from its parts: files, and long lines that are made here.
-ghost use Rattle.std.specs.Prelude.{◌≤◌, length};
+ghost use Rattle.std.specs.Prelude.{◌≤◌, length, IfOk};
 
-use super::say;
-use super::words::{find, is_number};
-use digits::decimal_of;
 use std::fs::File;
 use std::io;
-use tables::lesser;
+use texts::{number_in, read_whole};
+
+// How many bytes an input may have.
+pub(crate) const ROOM: usize = 131072;
 
 // No file has a name that is not text.
 fn opened(rt: HostRuntime, name: &[u8]) -> io::Result<File> {
@@ -17,54 +17,43 @@ fn opened(rt: HostRuntime, name: &[u8]) -> io::Result<File> {
 }
 
 // A file. One that isn't there is written out, so that it can't go unseen.
-fn file_laid(rt: HostRuntime, name: &[u8], rest: &mut [u8]) -> usize
-    ensures { result ≤ length rest.old }
+fn file_laid(rt: HostRuntime, name: &[u8], rest: &mut [u8]) -> io::Result<usize>
+    ensures { IfOk result (λ n. n ≤ length rest.old) }
 {
     match opened(rt, name) {
-        Ok(mut file) => say::read_full(&mut file, rest),
+        Ok(mut file) => Ok(read_whole(&mut file, rest).len()),
         Err(_) => {
-            say::word(rt, b"no file\n");
-            0
+            println!(rt; "no file")?;
+            Ok(0)
         }
     }
 }
 
 // A line of so many characters A and a line feed.
-fn line_laid(rt: HostRuntime, letters: usize, rest: &mut [u8]) -> usize
-    ensures { result ≤ length rest.old }
+fn line_laid(rt: HostRuntime, letters: usize, rest: &mut [u8]) -> io::Result<usize>
+    ensures { IfOk result (λ n. n ≤ length rest.old) }
 {
-    let n = lesser(letters, rest.len());
-    for i in 0..n {
-        rest[i] = b'A';
+    if letters < rest.len() {
+        rest[..letters].fill(b'A');
+        rest[letters] = b'\n';
+        return Ok(letters + 1);
     }
-    if n == rest.len() {
-        say::word(rt, b"no room\n");
-        return n;
-    }
-    rest[n] = b'\n';
-    n + 1
+    rest.fill(b'A');
+    println!(rt; "no room")?;
+    Ok(rest.len())
 }
 
-// A part by its word: a number stands for so many characters A and a line feed, any other word for a file. Returns how many bytes it has.
-fn part_laid(rt: HostRuntime, word: &[u8], rest: &mut [u8]) -> usize
-    ensures { result ≤ length rest.old }
-{
-    if is_number(word) {
-        return line_laid(rt, decimal_of(word) as usize, rest);
-    }
-    file_laid(rt, word, rest)
-}
-
-// The parts in turn, as the words of a text name them. Returns how many bytes the input has.
-pub(crate) fn laid(rt: HostRuntime, text: &[u8], input: &mut [u8]) -> usize
-    ensures { result ≤ length input.new }
-{
+// The parts in turn, as the words of a text name them: a number stands for so many characters A and a line feed, any other word for a file.
+// Each word ends at a space, or with the text. Returns the input.
+pub(crate) fn laid<'a>(rt: HostRuntime, text: &[u8], room: &'a mut [u8]) -> io::Result<&'a [u8]> {
     let mut end = 0;
-    let mut from = 0;
-    while from < text.len() {
-        let to = find(text, from, text.len(), b' ');
-        end = end + part_laid(rt, &text[from..to], &mut input[end..]);
-        from = to + 1;
+    for piece in text.split_inclusive(|b| *b == b' ') {
+        let word = piece.strip_suffix(b" ").unwrap_or(piece);
+        let rest = &mut room[end..];
+        end += match number_in(word) {
+            Some(letters) => line_laid(rt, letters as usize, rest)?,
+            None => file_laid(rt, word, rest)?,
+        };
     }
-    end
+    Ok(&room[..end])
 }

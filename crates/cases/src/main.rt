@@ -6,12 +6,12 @@ mod feed;
 mod input;
 mod left;
 mod list;
-mod say;
-mod words;
+
+use std::io;
+use texts::read_whole;
 
 // The list is read at once, and so can have 65,536 bytes.
-fn main(rt: HostRuntime) {
-    let mut text = [0u8; 65536];
-    let n = say::read_full(&mut rt.stdin(), &mut text);
-    list::play(rt, &text[..n]);
+fn main(rt: HostRuntime) -> io::Result<()> {
+    let mut room = [0u8; 65536];
+    list::play(rt, read_whole(&mut rt.stdin(), &mut room))
 }

@@ -1,15 +1,8 @@
 -- Laws of digits: how large the number of one is, and the number in two.
-use Prim.Native.Nat.{ℕ, ◌+◌, ◌*◌, ◌<◌, ◌≤◌}
-use mathlib.Core.Path.{◌≡◌, refl}
-use mathlib.Core.Bool.{Bool, true, false, ◌&&◌}
-use mathlib.Core.List.{[], ◌∷◌}
-use native.Mathlib.Omega.{arith}
-use lib.Dec.{leb}
+use Rattle.std.proofs.Common.{ℕ, ◌+◌, ◌*◌, ◌<◌, ◌≡◌, refl, Bool, true, false, [], ◌∷◌, arith, leb}
 use borrow.Author.Tests.{leb-true}
-use Rattle.rules.proofs.Bools.{and_left, and_right}
+use Rattle.rules.proofs.Bools.{and_right}
 use Rattle.digits.specs.Digits.{is_figure, is_letter, digit, value_from, value}
-
--- ---- how large
 
 pub digit_small : (b : ℕ) → digit b < 16
 unfolding digit
@@ -19,12 +12,6 @@ digit_small b = go (is_figure b) (is_letter b) refl refl
     go true l e d = rw e (omega (arith, leb-true b 57 (and_right (leb 48 b) (leb b 57) e)))
     go false true e d = rw (e, d) (omega (arith, leb-true b 70 (and_right (leb 65 b) (leb b 70) d)))
     go false false e d = rw (e, d) (omega arith)
-
--- what can be taken from the first character of a range can be taken from each
-pub at_least : (k first last b : ℕ) → (leb first b && leb b last) ≡ true → k ≤ first → k ≤ b
-at_least k first last b h g = let from = leb-true first b (and_left (leb first b) (leb b last) h) in omega arith
-
--- ---- the number in two digits
 
 pub two_digits : (x y : ℕ) → value (x ∷ y ∷ []) ≡ digit x * 16 + digit y
 unfolding value_from

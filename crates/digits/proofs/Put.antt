@@ -1,10 +1,6 @@
 -- Laws of digits that are written: how many they are, and a turn and the end of the loop over them.
-use Prim.Native.Nat.{ℕ, zero, suc, ◌-◌, ◌/◌, ◌%◌, ◌<◌, ◌≤◌}
-use mathlib.Core.Path.{◌≡◌, refl, sym}
-use mathlib.Core.List.{List, ◌++◌, append_assoc, append-nil}
-use native.Mathlib.Omega.{arith}
-use lib.ListN.{length, drop, set, length-append, length-set}
-use lib.Seq.{drop-cons, drop-length, drop-set-lt, get_or-set_same}
+use Rattle.std.proofs.Common.{ℕ, zero, suc, ◌-◌, ◌/◌, ◌%◌, ◌<◌, ◌≤◌, ◌≡◌, refl, sym, List, ◌++◌, append_assoc, append-nil, arith, length, drop, set, length-append, length-set, drop-cons, drop-set-lt, get_or-set_same}
+use lib.Seq.{drop-length}
 use Rattle.digits.specs.Digits.{character, digits}
 
 -- ---- how many

@@ -6,9 +6,8 @@ ghost use Rattle.digits.specs.Digits.{decimal};
 pub fn decimal_of(word: &[u8]) -> u32
     ensures { result ≡ decimal word.now }
 {
-    let mut n: u64 = 0;
-    for i in 0..word.len() {
-        n = n % 1000000000 * 10 + (word[i] % 16) as u64;
-    }
+    let n = word
+        .iter()
+        .fold(0u64, |n, b| n % 1000000000 * 10 + u64::from(b % 16));
     (n % 4294967296) as u32
 }

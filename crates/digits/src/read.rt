@@ -13,28 +13,23 @@ fn is_digit(b: u8) -> bool
 pub fn all_digits(s: &[u8]) -> bool
     ensures { result ≡ every is_digit s.now }
 {
-    let mut ok = true;
-    for i in 0..s.len() {
-        let here = is_digit(s[i]);
-        ok = ok & here;
-    }
-    ok
+    s.iter().fold(true, |ok, b| ok & is_digit(*b))
 }
 
 // What a digit stands for, and 0 for another character: every byte gets a number, so that no caller checks first.
+#[tactic(auto, unfolding(crate::specs::Digits::digit))]
 fn digit_of(b: u8) -> u8
     ensures { result ≡ digit b }
 {
-    if (b'0' <= b) & (b <= b'9') {
-        return b - 48;
+    match b {
+        b'0'..=b'9' => b - b'0',
+        b'A'..=b'F' => b - b'A' + 10,
+        _ => 0,
     }
-    if (b'A' <= b) & (b <= b'F') {
-        return b - 55;
-    }
-    0
 }
 
 // The number in two digits, wherever they stand.
+#[tactic(auto, using(crate::proofs::Hexadecimal::digit_small))]
 pub fn two_digits_of(high: u8, low: u8) -> u8
     ensures { result ≡ digit high * 16 + digit low }
 {

@@ -1,33 +1,21 @@
 -- Where a task stands in the election: its rank, by which the smallest priority and who has it are found.
-use Prim.Native.Nat.{ℕ, zero, suc, ◌+◌, ◌<◌, ◌≤◌, min}
-use mathlib.Core.Path.{◌≡◌, refl}
-use mathlib.Core.Bool.{Bool, true, false, cond, ◌&&◌}
-use native.Mathlib.Omega.{arith}
-use lib.Dec.{eqb}
-use borrow.Author.Tests.{ne_eqb}
+use Rattle.std.proofs.Common.{ℕ, zero, suc, ◌+◌, ◌≤◌, min, ◌≡◌, refl, Bool, true, false, cond, ◌&&◌, arith, eqb, get_or, List, ne_eqb}
 use Rattle.rules.specs.Numbers.{priority_end}
-use Rattle.rules.specs.Election.{smallest}
-use Rattle.election.specs.Ranks.{not_ready}
+use Rattle.rules.specs.Election.{smallest, ready_at, priority_at}
+use Rattle.election.specs.Ranks.{not_ready, rank_of}
 
--- a rank x: priority number q where b, else behind every one
-module _ (b : Bool) (q p x : ℕ) (e : x ≡ cond b 0 not_ready + q) (l : p ≤ priority_end) where
-  pub lesser_first : x < p → x ≡ cond b (min q p) p
-  lesser_first h = go b e
+-- priority number q where b, else behind every one
+module _ (b : Bool) (q p : ℕ) (l : p ≤ priority_end) where
+  pub lesser : min (cond b 0 not_ready + q) p ≡ cond b (min q p) p
+  lesser = go b
     where
-      go : (c : Bool) → x ≡ cond c 0 not_ready + q → x ≡ cond c (min q p) p
-      go true f = omega arith
-      go false f = absurd (omega arith)
-
-  pub lesser_second : p ≤ x → p ≡ cond b (min q p) p
-  lesser_second h = go b e
-    where
-      go : (c : Bool) → x ≡ cond c 0 not_ready + q → p ≡ cond c (min q p) p
-      go true f = omega arith
-      go false f = refl
+      go : (c : Bool) → min (cond c 0 not_ready + q) p ≡ cond c (min q p) p
+      go true = omega arith
+      go false = omega arith
 
   -- it is p exactly where the task counts and has priority p
-  pub has_is : eqb x p ≡ (b && eqb q p)
-  has_is = go b e
+  pub has_is : (x : ℕ) → x ≡ cond b 0 not_ready + q → eqb x p ≡ (b && eqb q p)
+  has_is x e = go b e
     where
       go : (c : Bool) → x ≡ cond c 0 not_ready + q → eqb x p ≡ (c && eqb q p)
       go true f = let same : x ≡ q = omega arith in rw same
@@ -44,6 +32,8 @@ smallest_within (suc n) passes priority e = go (passes n) e (smallest_within n p
     go true e l = omega arith
     go false e l = omega arith
 
-pub rank_fits : (b : Bool) (q x : ℕ) → x ≡ cond b 0 not_ready → q < priority_end → x + q < 65536
-rank_fits true q x e l = omega arith
-rank_fits false q x e l = omega arith
+-- one task more, by its rank
+pub smallest_ranked : (states priorities : List ℕ) (n : ℕ)
+    → min (rank_of (get_or states n 0) (get_or priorities n 0)) (smallest n (ready_at states) (priority_at priorities)) ≡ smallest (suc n) (ready_at states) (priority_at priorities)
+unfolding smallest
+smallest_ranked states priorities n = lesser (ready_at states n) _ _ (smallest_within n _ _ refl)

@@ -1,20 +1,14 @@
 -- Words over any width: which bits are set, that the empty word says "none", and that the lowest set bit is the lowest number that passes.
-use Prim.Native.Nat.{ℕ, zero, suc, ◌+◌, ◌*◌, ◌/◌, ◌%◌, ◌^◌, ◌<◌, ◌≤◌, max}
-use mathlib.Core.Path.{◌≡◌, refl, sym, ap, ◌∙◌}
-use mathlib.Core.Logic.{◌≢◌, ⊎_elim}
-use mathlib.Core.Bool.{Bool, true, false, cond, false≢true}
-use native.Mathlib.Omega.{arith}
-use native.Mathlib.Nat.{div-eq_of_lt, mod-eq_of_lt, pow-suc, one-mul}
-use native.Mathlib.Numerals.{add-one}
-use lib.Bits.{bit_or, or_lt}
+use Rattle.std.proofs.Common.{ℕ, zero, suc, ◌+◌, ◌/◌, ◌%◌, ◌^◌, ◌<◌, ◌≤◌, max, ◌≡◌, refl, sym, ap, ◌∙◌, ◌≢◌, ⊎_elim, Bool, bit_or, true, false, cond, arith, pow-suc, add-one, eqb, ltb, pow_pos, pow_mono, shr-shr, shr_lt, eqb-true, ltb-true, ltb-false}
+use mathlib.Core.Bool.{false≢true}
+use native.Mathlib.Nat.{div-eq_of_lt}
+use lib.Bits.{or_lt}
 use lib.Count.{count_trailing_zeros}
-use lib.Dec.{eqb, ltb}
-use lib.Pow.{pow_pos, pow-lt, pow_mono, shr-shr, shr_lt}
-use borrow.Author.Tests.{eqb-true, eqb-false, ltb-true, ltb-false}
+use lib.Pow.{pow-lt}
+use borrow.Author.Tests.{eqb-false}
 use Rattle.rules.specs.Numbers.{nobody}
 use Rattle.rules.specs.Election.{lowest}
 use Rattle.rules.proofs.Bits.{bit, bit_of_zero, bit_or_lem, bit_same, bit_other}
-use Rattle.rules.proofs.Counts.{at_end}
 use Rattle.rules.proofs.Election.{Lowest, lowest_is}
 use Rattle.election.specs.Words.{word}
 
@@ -153,19 +147,6 @@ module _ (passes : ℕ → Bool) where
 
 -- ---- as the code has it
 
--- the machine's one bit, in a word of k bits
-pub bit_at : (k i : ℕ) → i < k → (1 * 2 ^ i) % 2 ^ k ≡ 2 ^ i
-bit_at k i l = rw one-mul (mod-eq_of_lt (pow-lt l))
-
--- one number more
-pub word_again : (i : ℕ) (passes : ℕ → Bool) (w x : ℕ) {b : Bool} → w ≡ word i passes → b ≡ passes i → x ≡ cond b (2 ^ i) 0
-    → bit_or w x ≡ word (i + 1) passes
-unfolding word
-word_again i passes w x e f h = rw (add-one, e, h, f)
-
-pub word_end_lem : (i n : ℕ) (passes : ℕ → Bool) (w : ℕ) → w ≡ word i passes → i ≤ n → n ≤ i → w ≡ word n passes
-word_end_lem i n passes w e l k = at_end (λ m. word m passes) i n e l k
-
 -- the empty word, and any other
 module _ (n : ℕ) (passes : ℕ → Bool) {w : ℕ} (is : w ≡ word n passes) (fits : n ≤ nobody) where
   pub empty_is : w ≡ 0 → nobody ≡ lowest n passes
@@ -173,3 +154,9 @@ module _ (n : ℕ) (passes : ℕ → Bool) {w : ℕ} (is : w ≡ word n passes) 
 
   pub trailing_is : (k : ℕ) → n ≤ k → w ≢ 0 → count_trailing_zeros k w ≡ lowest n passes
   trailing_is k l z = rw is (lowest_bit passes n fits k l (λ e. z (is ∙ e)))
+
+-- one number more
+pub word_again : (i : ℕ) (passes : ℕ → Bool) (w x : ℕ) {b : Bool} → w ≡ word i passes → b ≡ passes i → x ≡ cond b (2 ^ i) 0
+    → bit_or w x ≡ word (i + 1) passes
+unfolding word
+word_again i passes w x e f h = rw (add-one, e, h, f)

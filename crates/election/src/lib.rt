@@ -1,7 +1,7 @@
 // Election: the ready task of smallest priority number, and of equals the lowest task number; and the one that it displaces.
 #![tactic(auto)]
 
-ghost use Rattle.std.specs.Prelude.{◌≡◌, cond, ◌&&◌, ◌+◌, ◌^◌, ◌<◌, ◌≤◌, min, eqb, length};
+ghost use Rattle.std.specs.Prelude.{◌≡◌, cond, ◌&&◌, ◌+◌, ◌^◌, ◌<◌, ◌≤◌, min, eqb};
 ghost use Rattle.std.specs.Int.Count.{count_trailing_zeros};
 ghost use Rattle.rules.specs.Numbers.{task_room, priority_end};
 ghost use Rattle.rules.specs.Tasks.{ready};
@@ -11,8 +11,8 @@ ghost use Rattle.election.specs.Words.{word_bits, word};
 
 use rules::{Elected, NOBODY, READY, TASKS};
 
-// Past every priority number: what the smallest one is where no task is ready.
-const PRIORITY_END: u16 = 256;
+// Past every priority number: what the smallest one is where there is none.
+pub const PRIORITY_END: u16 = 256;
 
 // What is added to the priority number of a task that is not ready: enough to stand behind PRIORITY_END.
 const NOT_READY: u16 = 512;
@@ -30,32 +30,20 @@ fn handicap(state: u8) -> u16
 fn rank(state: u8, priority: u8) -> u16
     ensures { result ≡ rank_of state priority }
 {
-    handicap(state) + (priority as u16)
-}
-
-// The smaller of p and the task's priority, if the task is ready.
-#[tactic(auto, using(crate::proofs::Ranks::lesser_first, crate::proofs::Ranks::lesser_second))]
-fn lesser(state: u8, priority: u8, p: u16) -> u16
-    requires { p ≤ priority_end }
-    ensures { result ≡ cond (eqb state ready) (min priority p) p }
-{
-    let mine = rank(state, priority);
-    if mine < p { mine } else { p }
+    handicap(state) + u16::from(priority)
 }
 
 // The smallest priority number of a ready task, PRIORITY_END where none is ready.
-fn smallest_of<'a>(state: &'a [u8; TASKS], priority: &'a [u8; TASKS]) -> u16
-    requires state_len { length state.now ≡ task_room }
-    requires priority_len { length priority.now ≡ task_room }
+fn smallest_of(state: &[u8; TASKS], priority: &[u8; TASKS]) -> u16
     ensures { result ≡ smallest task_room (ready_at state.now) (priority_at priority.now) }
 {
-    let mut p = PRIORITY_END;
-    for i in 0..TASKS {
-        p = lesser(state[i], priority[i], p);
-    }
-    p
+    state
+        .iter()
+        .zip(priority)
+        .fold(PRIORITY_END, |least, (s, p)| rank(*s, *p).min(least))
 }
 
+#[tactic(auto, using(crate::proofs::Ranks::has_is))]
 fn has_it(state: u8, priority: u8, p: u16) -> bool
     requires { p ≤ priority_end }
     ensures { result ≡ (eqb state ready && eqb priority p) }
@@ -68,36 +56,30 @@ fn bit_of(set: bool, i: u32) -> ReadyWord
     requires { i < word_bits }
     ensures { result ≡ cond set (2 ^ i) 0 }
 {
-    let one: ReadyWord = 1;
-    if set { one << i } else { 0 }
+    if set { 1 << i } else { 0 }
 }
 
 // The ready tasks of priority p, as bits.
-fn ready_word<'a>(state: &'a [u8; TASKS], priority: &'a [u8; TASKS], p: u16) -> ReadyWord
-    requires state_len { length state.now ≡ task_room }
-    requires priority_len { length priority.now ≡ task_room }
-    requires p_le_priority_end { p ≤ priority_end }
+fn ready_word(state: &[u8; TASKS], priority: &[u8; TASKS], p: u16) -> ReadyWord
+    requires { p ≤ priority_end }
     ensures { result ≡ word task_room (λ i. ready_at state.now i && eqb (priority_at priority.now i) p) }
 {
-    let mut w: ReadyWord = 0;
-    for i in 0..TASKS {
-        w = w | bit_of(has_it(state[i], priority[i], p), i as u32);
-    }
-    w
+    state.iter().zip(priority).enumerate().fold(
+        0,
+        |w, (i, (s, q))| w | bit_of(has_it(*s, *q, p), i as u32),
+    )
 }
 
 // The place of a word's lowest set bit: the number of zeros behind it.
 fn lowest_bit(w: ReadyWord) -> u32
     ensures { result ≡ count_trailing_zeros word_bits w }
 {
-    u64::trailing_zeros(w)
+    w.trailing_zeros()
 }
 
-// The lowest number of a ready task of priority p. Where there is none the word is empty, and would give its width.
-fn lowest_of<'a>(state: &'a [u8; TASKS], priority: &'a [u8; TASKS], p: u16) -> u8
-    requires state_len { length state.now ≡ task_room }
-    requires priority_len { length priority.now ≡ task_room }
-    requires p_le_priority_end { p ≤ priority_end }
+// The lowest number of a ready task of priority p; NOBODY, which is what a table stores, where there is none: the empty word would give its width.
+fn lowest_of(state: &[u8; TASKS], priority: &[u8; TASKS], p: u16) -> u8
+    requires { p ≤ priority_end }
     ensures { result ≡ lowest task_room (λ i. ready_at state.now i && eqb (priority_at priority.now i) p) }
 {
     let w = ready_word(state, priority, p);
@@ -107,9 +89,7 @@ fn lowest_of<'a>(state: &'a [u8; TASKS], priority: &'a [u8; TASKS], p: u16) -> u
     lowest_bit(w) as u8
 }
 
-pub fn best_ready<'a>(state: &'a [u8; TASKS], priority: &'a [u8; TASKS]) -> u8
-    requires state_len { length state.now ≡ task_room }
-    requires priority_len { length priority.now ≡ task_room }
+pub fn best_ready(state: &[u8; TASKS], priority: &[u8; TASKS]) -> u8
     ensures { result ≡ best_ready state.now priority.now }
 {
     let p = smallest_of(state, priority);
@@ -118,9 +98,7 @@ pub fn best_ready<'a>(state: &'a [u8; TASKS], priority: &'a [u8; TASKS]) -> u8
 
 // The holder behind the entry v, if there is one; else the best ready task.
 #[tactic(auto, unfolding(rules::specs::Election::elected_by))]
-pub fn elected_by<'a>(v: u8, state: &'a [u8; TASKS], priority: &'a [u8; TASKS]) -> u8
-    requires state_len { length state.now ≡ task_room }
-    requires priority_len { length priority.now ≡ task_room }
+pub fn elected_by(v: u8, state: &[u8; TASKS], priority: &[u8; TASKS]) -> u8
     ensures { result ≡ elected_by v state.now priority.now }
 {
     if v == 0 {
@@ -131,16 +109,14 @@ pub fn elected_by<'a>(v: u8, state: &'a [u8; TASKS], priority: &'a [u8; TASKS]) 
 
 // Whether a task is ready: a number past the tasks is nobody's.
 fn is_ready(state: &[u8; TASKS], task: u8) -> bool
-    requires { length state.now ≡ task_room }
     ensures { result ≡ ready_at state.now task }
 {
-    let i = task as usize;
-    if i < TASKS { state[i] == READY } else { false }
+    state.get(usize::from(task)).is_some_and(|s| *s == READY)
 }
 
-// The former elected task, if it is still ready and no longer elected.
+// The former elected task, if it is still ready and no longer elected; else NOBODY, as an answer has it.
+#[tactic(auto, unfolding(rules::specs::Election::displaced_by))]
 fn displaced_by(former: u8, state: &[u8; TASKS], elected: u8) -> u8
-    requires { length state.now ≡ task_room }
     ensures { result ≡ displaced_by former state.now elected }
 {
     let aside = is_ready(state, former) & (former != elected);
@@ -148,14 +124,12 @@ fn displaced_by(former: u8, state: &[u8; TASKS], elected: u8) -> u8
 }
 
 // Both answers of an election, where `former` was elected before it: every call that elects takes both from here.
-pub fn elect<'a>(former: u8, v: u8, state: &'a [u8; TASKS], priority: &'a [u8; TASKS]) -> Elected
-    requires state_len { length state.now ≡ task_room }
-    requires priority_len { length priority.now ≡ task_room }
+pub fn elect(former: u8, v: u8, state: &[u8; TASKS], priority: &[u8; TASKS]) -> Elected
     ensures { result ≡ elect_by former v state.now priority.now }
 {
     let task = elected_by(v, state, priority);
     Elected {
-        task: task,
+        task,
         displaced: displaced_by(former, state, task),
     }
 }

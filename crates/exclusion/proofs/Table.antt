@@ -1,14 +1,10 @@
 -- One computed test shows that the exclusion table is symmetric and that SIGNAL's row is the paper's; the laws for every number follow from it.
 -- Assumes nothing.
-use Prim.Native.Nat.{ℕ, zero, suc, ◌≤◌, ◌<◌}
-use native.Mathlib.Decide.{dec_lt}
-use native.Mathlib.Nat.{le_of_suc-le-suc, not-suc-le-zero}
-use native.Mathlib.Omega.{arith}
-use mathlib.Core.Bool.{Bool, true, false, not, false≢true}
-use mathlib.Core.List.{List, [], ◌∷◌, map}
-use mathlib.Core.Path.{◌≡◌, refl, sym, ap, ◌∙◌}
-use lib.ListN.{get_or, length, get_or-eq_default, get_or-map}
-use lib.Seq.{drop-cons}
+use Rattle.std.proofs.Common.{ℕ, zero, suc, ◌≤◌, ◌<◌, Bool, true, false, not, List, [], ◌∷◌, map, get_or, ◌≡◌, refl, sym, ap, ◌∙◌, arith}
+use Rattle.std.proofs.lemmas.Bool.{false≢true}
+use Rattle.std.proofs.Math.Decide.{dec_lt}
+use Rattle.std.proofs.Math.Nat.{le_of_suc-le-suc, not-suc-le-zero}
+use Rattle.std.proofs.Math.ListN.{get_or-eq_default, get_or-map}
 use Rattle.exclusion.specs.Marks.{x, o, row, marks, mark, signal, passes_signal}
 
 -- the values of f at the first n numbers
@@ -42,14 +38,6 @@ signal_row_is = ap (λ t. t.1) test
 pub unknown_excludes : (a b : ℕ) → 10 ≤ a → mark a b ≡ true
 unfolding mark marks
 unknown_excludes a b h = rw (get_or-eq_default marks [] h)
-
--- the mark of two operations that exist does not depend on what a row answers past its end
-pub known_mark : (a b : ℕ) (d : Bool) → a < 10 → b < 10 → get_or (get_or marks a []) b d ≡ mark a b
-unfolding mark marks column
-known_mark a b d h k =
-    let r : List Bool = get_or marks a [] in
-    let l : b < length r = omega (arith, ap length (row_is_column a h)) in
-    cc (drop-cons r b d l, drop-cons r b true l)
 
 known_symmetric : (a b : ℕ) → a < 10 → mark a b ≡ mark b a
 unfolding mark column

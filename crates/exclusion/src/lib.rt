@@ -25,12 +25,13 @@ const EXCLUDES: [[bool; 10]; 10] = [
 
 // Whether operation a excludes operation b. An operation that does not exist excludes everything, so that a caller who
 // asks about one never moves a call past it.
+#[tactic(auto, unfolding(crate::specs::Marks::mark, crate::specs::Marks::marks))]
 pub fn excludes(a: u8, b: u8) -> bool
     ensures { result ≡ mark a b }
 {
-    if a < 10 && b < 10 {
-        EXCLUDES[a as usize][b as usize]
-    } else {
-        true
-    }
+    EXCLUDES
+        .get(usize::from(a))
+        .and_then(|row| row.get(usize::from(b)))
+        .copied()
+        .unwrap_or(true)
 }

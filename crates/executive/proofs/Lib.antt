@@ -1,4 +1,2 @@
 -- Laws that the proofs of this crate's functions cite.
 mod Replies
-mod QueueQueries
-mod TaskQueries

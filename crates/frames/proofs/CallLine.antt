@@ -1,21 +1,13 @@
 -- Laws of a call line at a place: its digits in two parts, and the tests that the code makes.
-use Prim.Native.Nat.{ℕ, zero, suc, ◌+◌, ◌<◌, ◌≤◌}
-use mathlib.Core.Path.{◌≡◌, refl, sym, ◌∙◌}
-use mathlib.Core.Bool.{Bool, true, false, ◌&&◌, and_assoc}
-use mathlib.Core.List.{List, [], ◌∷◌}
-use native.Mathlib.Omega.{arith}
-use native.Mathlib.Nat.{le_of_suc-le-suc}
-use lib.Dec.{leb}
-use lib.ListN.{length, take, drop, get_or, length-drop}
-use lib.Seq.{take_all}
+use Rattle.std.proofs.Common.{ℕ, zero, suc, ◌+◌, ◌<◌, ◌≤◌, ◌≡◌, refl, sym, ◌∙◌, Bool, true, false, ◌&&◌, List, [], ◌∷◌, Some, None, arith, le_of_suc-le-suc, leb, length, take, drop, get_or, length-drop, take_all}
+use mathlib.Core.Bool.{and_assoc}
 use borrow.Author.Tests.{eq-eqb, ne_eqb, le-leb, lt-leb, leb-true}
 use Rattle.rules.specs.Words.{every}
 use Rattle.rules.proofs.Bools.{and_left}
 use Rattle.digits.specs.Digits.{is_digit}
 use Rattle.lines.specs.Ends.{line_feed, part}
 use Rattle.frames.specs.Calls.{call_length, call_in}
-use Rattle.frames.specs.CallLine.{call_line_at, request_for, no_request, request_at}
-use Rattle.frames.specs.declared.call.Request.{Request}
+use Rattle.frames.specs.CallLine.{call_line_at, request_at}
 use Rattle.rules.specs.declared.Call.{Call}
 
 -- ---- a line's characters in two parts
@@ -65,11 +57,11 @@ module _ (input : List ℕ) (at : ℕ) where
   -- ---- what is asked for there
 
   module _ (r : Bool) (e : r ≡ call_line_at input at) where
-    pub request_none : (q : Request) → r ≡ false → q ≡ no_request → q ≡ request_at input at
+    pub request_none : r ≡ false → None ≡ request_at input at
     unfolding request_at
-    request_none q n k = simp (← e, n) k
+    request_none n = simp (← e, n)
 
-    pub request_some : (c : Call) → r ≡ true → c ≡ call_in (part at (at + call_length) input) → request_for c ≡ request_at input at
+    pub request_some : (c : Call) → r ≡ true → c ≡ call_in (part at (at + call_length) input) → Some c ≡ request_at input at
     unfolding request_at
     request_some c n k = simp (← e, n, k)
 

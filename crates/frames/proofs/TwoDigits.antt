@@ -1,33 +1,38 @@
 -- Laws of the numbers in digits that stand side by side: a turn of the loop over them, and the fields that they make up.
-use Prim.Native.Nat.{ℕ, suc, ◌+◌, ◌*◌, ◌<◌, ◌≤◌}
-use mathlib.Core.Path.{◌≡◌, refl, ◌∙◌}
-use mathlib.Core.List.{List, ◌∷◌}
-use native.Mathlib.Decide.{dec_lt}
-use native.Mathlib.Numerals.{add-one}
-use native.Mathlib.Omega.{arith}
-use lib.ListN.{length, take, drop, get_or, set}
-use lib.Seq.{drop-cons, get_or-take, get_or-drop, get_or-set_same, get_or-set_other}
+use Rattle.std.proofs.Common.{ℕ, zero, suc, ◌+◌, ◌<◌, ◌≤◌, ◌≡◌, refl, ◌∙◌, List, [], ◌∷◌, arith, length, take, drop, get_or, drop-cons, get_or-take, get_or-drop, w32}
+use denote.Param.Members.{Mut}
+use Rattle.std.specs.Array.{IsFromFnResultFrom, IsFromFnResult}
+use Rattle.std.specs.Fn.{Called}
+use Rattle.std.specs.Int.{from_be_bytes}
 use Rattle.rules.specs.declared.Call.{Call}
-use Rattle.digits.specs.Digits.{digit, value_from, field}
+use Rattle.digits.specs.Digits.{value_from, field}
 use Rattle.frames.specs.Calls.{call_length, call_in}
-use Rattle.frames.specs.TwoDigits.{step_bytes, two_digits_at, word_of_bytes}
+use Rattle.frames.specs.TwoDigits.{step_bytes, two_digits_at}
 
--- the first i of them stand in r
+-- the first n of them stand in r
 abbrev pub ReadTo : ℕ → List ℕ → List ℕ → Type 0
-ReadTo i s r = (k : ℕ) → k < i → get_or r k 0 ≡ two_digits_at s k
+ReadTo n s r = (k : ℕ) → k < n → get_or r k 0 ≡ two_digits_at s k
 
-pub read_none : (s r : List ℕ) → ReadTo 0 s r
-read_none s r k h = absurd (omega arith)
+-- an array made by a function of the place holds its values
+module _ {F : Type 0} (g : Mut F (ℕ × Unit {0}) ℕ) (value : ℕ → ℕ) (f : F) (step : (i y : ℕ) (q : F) → Called g f (i, tt) y q → (q ≡ f) × (y ≡ value i)) where
+  from_each : (ys : List ℕ) (k n : ℕ) (p : F) → p ≡ f → IsFromFnResultFrom g p ys k n → (i : ℕ) → i < n → get_or ys (k + i) 0 ≡ value (k + i)
+  from_each ys k zero p e h i l = absurd (omega arith)
+  from_each ys k (suc n) p e h zero l =
+      let same : k + 0 ≡ k = omega arith in
+      let called = step k h.1 h.0 (rw e at h.3) in
+      rw same (h.2.1 0 ∙ called.1)
+  from_each ys k (suc n) p e h (suc i) l =
+      let move : k + suc i ≡ k + 1 + i = omega arith in
+      let called = step k h.1 h.0 (rw e at h.3) in
+      rw move (from_each ys (k + 1) n h.0 called.0 h.4 i (omega arith))
 
-pub read_more : (s r : List ℕ) (i d : ℕ) → ReadTo i s r → d ≡ digit (get_or s i 0) * 16 + digit (get_or s (i + 1) 0) → i < length r
-    → ReadTo (i + 1) s (set r i d)
-read_more s r i d p e h k l =
-    elim (dec_lt k i) [
-      | yes q ↦ get_or-set_other r i k d 0 (λ z. omega arith) ∙ p k q
-      | no q ↦ let here : k ≡ i = omega arith in rw (here, get_or-set_same r i d 0 h) (rw add-one at e)
-    ]
+  pub made_by : (n : ℕ) (ys : List ℕ) → IsFromFnResult g f ys n → (i : ℕ) → i < n → get_or ys i 0 ≡ value i
+  made_by n ys h i l = let none : 0 + i ≡ i = omega arith in rw none at (from_each ys 0 n f refl h.each i l)
 
 -- ---- the fields
+
+abbrev pub word : ℕ → ℕ → ℕ → ℕ → ℕ
+word a b c d = from_be_bytes w32 (a ∷ b ∷ c ∷ d ∷ [])
 
 abbrev pub call_of : ℕ → ℕ → ℕ → ℕ → ℕ → Call
 call_of caller operation a b c = record { caller = caller; operation = operation; a = a; b = b; c = c }
@@ -38,7 +43,7 @@ module _ (l : List ℕ) where
   two_digits_field at h = rw (drop-cons l at 0 (omega arith), drop-cons l (suc at) 0 (omega arith)) (omega arith)
 
   word_field : (at : ℕ) → at + 8 ≤ length l
-      → word_of_bytes (two_digits_at l at) (two_digits_at l (suc (suc at))) (two_digits_at l (suc (suc (suc (suc at)))))
+      → word (two_digits_at l at) (two_digits_at l (suc (suc at))) (two_digits_at l (suc (suc (suc (suc at)))))
       (two_digits_at l (suc (suc (suc (suc (suc (suc at)))))))
       ≡ field 8 at l
   unfolding field value_from
@@ -70,9 +75,9 @@ part_read from n l r p e i h =
 
 module _ (l p q : List ℕ) (a b c : ℕ) where
   pub call_read : length l ≡ call_length → ReadTo step_bytes (take 17 (drop 0 l)) p → ReadTo step_bytes (take 17 (drop 11 l)) q
-      → a ≡ word_of_bytes (get_or p 4 0) (get_or p 6 0) (get_or p 8 0) (get_or p 10 0)
-      → b ≡ word_of_bytes (get_or p 12 0) (get_or p 14 0) (get_or q 5 0) (get_or q 7 0)
-      → c ≡ word_of_bytes (get_or q 9 0) (get_or q 11 0) (get_or q 13 0) (get_or q 15 0)
+      → a ≡ word (get_or p 4 0) (get_or p 6 0) (get_or p 8 0) (get_or p 10 0)
+      → b ≡ word (get_or p 12 0) (get_or p 14 0) (get_or q 5 0) (get_or q 7 0)
+      → c ≡ word (get_or q 9 0) (get_or q 11 0) (get_or q 13 0) (get_or q 15 0)
       → call_of (get_or p 0 0) (get_or p 2 0) a b c ≡ call_in l
   unfolding call_in
   call_read h f g x y z =

@@ -1,10 +1,6 @@
 -- Laws of a list written over: an answer line filled from its start on, and bytes that come to stand at a place.
-use Prim.Native.Nat.{ℕ, suc, ◌+◌, ◌-◌, ◌<◌, ◌≤◌}
-use mathlib.Core.Path.{◌≡◌, refl, sym}
-use mathlib.Core.List.{List, [], ◌∷◌, ◌++◌, append_assoc}
-use native.Mathlib.Omega.{arith}
-use lib.ListN.{length, take, drop, get_or, set, drop_of_length-le, length-append, length-drop}
-use lib.Seq.{take_at, drop_at, drop-cons, drop-drop, length-take-le, set_at}
+use Rattle.std.proofs.Common.{ℕ, suc, ◌+◌, ◌-◌, ◌<◌, ◌≤◌, ◌≡◌, refl, sym, List, [], ◌∷◌, ◌++◌, append_assoc, arith, length, take, drop, get_or, set, drop_of_length-le, length-append, length-drop, take_at, drop_at, drop-cons, drop-drop, length-take-le}
+use lib.Seq.{set_at}
 use borrow.Author.Tests.{le-leb, lt-leb}
 use borrow.Rule.Slice.PartMut.{mid_of, put_mid}
 use Rattle.rules.specs.declared.Answer.{Answer}

@@ -1,4 +1,4 @@
--- The numbers in digits that stand side by side, and the word in four of them.
+-- The numbers in digits that stand side by side.
 use Rattle.std.specs.Prelude.{ℕ, suc, ◌+◌, ◌*◌, List, get_or}
 use Rattle.digits.specs.Digits.{digit}
 
@@ -9,6 +9,3 @@ step_bytes = 16
 -- the number in a digit and the one behind it
 abbrev pub two_digits_at : List ℕ → ℕ → ℕ
 two_digits_at line i = digit (get_or line i 0) * 16 + digit (get_or line (suc i) 0)
-
-abbrev pub word_of_bytes : ℕ → ℕ → ℕ → ℕ → ℕ
-word_of_bytes a b c d = ((a * 256 + b) * 256 + c) * 256 + d

@@ -3,8 +3,8 @@ ghost use Rattle.std.specs.Prelude.{◌≡◌, true, ℕ, suc, ◌<◌, length, 
 ghost use Rattle.rules.specs.Words.{every};
 ghost use Rattle.digits.specs.Digits.{is_digit};
 ghost use Rattle.frames.specs.Calls.{call_length, call_in};
-ghost use Rattle.frames.specs.TwoDigits.{step_bytes, two_digits_at, word_of_bytes};
-ghost use Rattle.frames.specs.CallLine.{call_line_at, no_request, request_at};
+ghost use Rattle.frames.specs.TwoDigits.{step_bytes, two_digits_at};
+ghost use Rattle.frames.specs.CallLine.{call_line_at, request_at};
 
 use digits::{all_digits, two_digits_of};
 use rules::Call;
@@ -18,47 +18,12 @@ pub const CALL_LINE: usize = CALL + 1;
 // The bytes that one step of a vector takes.
 const STEP: usize = 16;
 
-// What a place of the input asks for: a call, where a call line stands there.
-#[derive(Clone, Copy)]
-pub struct Request {
-    pub call: Call,
-    pub good: bool,
-}
-
-// What a place asks for where no call line stands.
-fn no_request() -> Request
-    ensures { result ≡ no_request }
-{
-    Request {
-        call: Call {
-            caller: 0,
-            operation: 0,
-            a: 0,
-            b: 0,
-            c: 0,
-        },
-        good: false,
-    }
-}
-
-// The word in four bytes, the highest first.
-fn word_of_bytes(a: u8, b: u8, c: u8, d: u8) -> u32
-    ensures { result ≡ word_of_bytes a b c d }
-{
-    (((a as u32) * 256 + (b as u32)) * 256 + (c as u32)) * 256 + (d as u32)
-}
-
 // The number in each two digits that stand side by side. There is no branch, so that the loop becomes one step over 16 bytes.
-#[tactic(auto, using(crate::proofs::TwoDigits::read_none, crate::proofs::TwoDigits::read_more))]
 fn two_digit_numbers(s: &[u8]) -> [u8; STEP]
     requires { length s.now ≡ suc step_bytes }
     ensures { (i : ℕ) → i < step_bytes → get_or result i 0 ≡ two_digits_at s.now i }
 {
-    let mut r: [u8; STEP] = [0; STEP];
-    for i in 0..STEP {
-        r[i] = two_digits_of(s[i], s[i + 1]);
-    }
-    r
+    std::array::from_fn(|i| two_digits_of(s[i], s[i + 1]))
 }
 
 // The call in a line: every second of these numbers makes up its fields, and the two halves overlap so that each is a whole step.
@@ -72,9 +37,9 @@ fn call_of(line: &[u8]) -> Call
     Call {
         caller: p[0],
         operation: p[2],
-        a: word_of_bytes(p[4], p[6], p[8], p[10]),
-        b: word_of_bytes(p[12], p[14], q[5], q[7]),
-        c: word_of_bytes(q[9], q[11], q[13], q[15]),
+        a: u32::from_be_bytes([p[4], p[6], p[8], p[10]]),
+        b: u32::from_be_bytes([p[12], p[14], q[5], q[7]]),
+        c: u32::from_be_bytes([q[9], q[11], q[13], q[15]]),
     }
 }
 
@@ -106,16 +71,14 @@ fn call_line_at(input: &[u8], at: usize) -> bool
     digits_alone(&input[at..end])
 }
 
+// What a place of the input asks for: a call, where a call line stands there.
 #[tactic(auto, using(crate::proofs::CallLine::request_none, crate::proofs::CallLine::request_some, crate::proofs::CallLine::request_room))]
-pub fn request_at(input: &[u8], at: usize) -> Request
+pub fn request_at(input: &[u8], at: usize) -> Option<Call>
     ensures { result ≡ request_at input.now at }
 {
     if !call_line_at(input, at) {
-        return no_request();
+        return None;
     }
     let end = at + CALL;
-    Request {
-        call: call_of(&input[at..end]),
-        good: true,
-    }
+    Some(call_of(&input[at..end]))
 }

@@ -5,4 +5,4 @@ mod answer;
 mod call;
 
 pub use answer::{ANSWER, put_answer};
-pub use call::{CALL_LINE, Request, request_at};
+pub use call::{CALL_LINE, request_at};

@@ -1,17 +1,10 @@
 -- A block of the right size whose unused bytes are 0, unpacked and packed again, is what it was.
-use Prim.Native.Nat.{ℕ, suc, ◌+◌, ◌*◌, ◌<◌, ◌≤◌}
-use mathlib.Core.Path.{◌≡◌, ◌∙◌}
-use mathlib.Core.Bool.{true}
-use mathlib.Core.List.{List, [], ◌∷◌}
-use native.Mathlib.Omega.{arith}
-use lib.ListN.{get_or, length, take, drop, length-drop}
-use lib.Seq.{get_or-drop, take_all}
-use borrow.Author.Tests.{eqb-true, lt-ltb}
+use Rattle.std.proofs.Common.{ℕ, suc, ◌+◌, ◌*◌, ◌<◌, ◌≤◌, ◌≡◌, ◌∙◌, true, List, [], ◌∷◌, arith, get_or, length, take, drop, length-drop, get_or-drop, take_all, eqb-true, lt-ltb}
 use Rattle.rules.specs.Numbers.{task_room, region_room, queue_room, store_size, timer_room}
 use Rattle.rules.specs.Words.{every}
 use Rattle.rules.proofs.Lists.{every_drop, every_cons, every_nil}
 use Rattle.rules.proofs.Counts.{below_at}
-use Rattle.packing.specs.Bytes.{half_width, word_width, bytes, numbers, spread}
+use Rattle.packing.specs.Bytes.{values_in, half_width, word_width, bytes, spread}
 use Rattle.packing.specs.Timers.{timer_width, unused_place}
 use Rattle.packing.proofs.RoundTrips.{is_byte, spread_numbers, bytes_front, take_next, byte_at, timers_written}
 use Rattle.layout.specs.Layout.{priority_place, state_place, arrived_place, list_place, operator_place, awaits_place, holder_place, entries_place, opened_place, bound_place, length_place, element_place, criterion_place, ticks_place, timers_place, block_size, part, unpacked, packed, unused_zero}
@@ -30,7 +23,7 @@ module _ (block : List ℕ) (small : every is_byte block ≡ true) (size : lengt
       spread_numbers width count (drop place block) (every_drop is_byte place block small) (rw (length-drop, size) (omega arith))
 
   ticks_written : bytes word_width (get_or (part ticks_place word_width 1 block) 0 0) ≡ take word_width (drop ticks_place block)
-  unfolding numbers
+  unfolding values_in
   ticks_written = bytes_front word_width (drop ticks_place block) (every_drop is_byte ticks_place block small) (rw (length-drop, size) (omega arith))
 
   unused_at : unused_zero block ≡ true → (i : ℕ) → i < timer_room → get_or (drop timers_place block) (timer_width * i + unused_place) 0 ≡ 0

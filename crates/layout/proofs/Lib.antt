@@ -7,3 +7,4 @@ pub mod Reading
 pub mod Writing
 pub mod Staying
 pub mod PartLengths
+mod Unused

@@ -1,15 +1,11 @@
 -- A table read part by part from a block of the right size is the table of the block.
-use Prim.Native.Nat.{ℕ, ◌+◌, ◌*◌}
-use mathlib.Core.Path.{◌≡◌, refl, ap, ◌∙◌}
-use mathlib.Core.Bool.{true}
-use mathlib.Core.List.{List}
-use lib.Dec.{leb}
-use lib.ListN.{get_or, length, replicate, length-replicate}
+use Rattle.std.proofs.Common.{ℕ, ◌+◌, ◌*◌, ◌≡◌, refl, ap, ◌∙◌, true, List, leb, get_or, length, replicate}
+use lib.ListN.{length-replicate}
 use Rattle.rules.specs.declared.Timer.{Timer}
 use Rattle.rules.specs.Numbers.{task_room, region_room, queue_room, store_size}
 use Rattle.tables.specs.declared.front.Front.{Front}
 use Rattle.tables.specs.Fronts.{whole, front_of}
-use Rattle.packing.specs.Bytes.{half_width, word_width, taken}
+use Rattle.packing.specs.Bytes.{values_taken, half_width, word_width, taken}
 use Rattle.packing.specs.Timers.{timers_taken}
 use Rattle.layout.specs.Layout.{priority_place, state_place, arrived_place, list_place, operator_place, awaits_place, holder_place, entries_place, opened_place, bound_place, length_place, element_place, criterion_place, ticks_place, timers_place, block_size, part, unpacked}
 use Rattle.layout.specs.Fronts.{front_taken}
@@ -18,11 +14,11 @@ module _ (block : List ℕ) (size : length block ≡ block_size) where
   -- an array of zeros filled from a place on is that part of the block
   filled : (place width count : ℕ) (ns : List ℕ) → leb (place + width * count) block_size ≡ true → ns ≡ taken width place block (replicate count 0)
       → ns ≡ part place width count block
-  unfolding taken
+  unfolding values_taken
   filled place width count ns h e = e ∙ rw (length-replicate {A = ℕ} count 0, size, h)
 
   filled_timers : (rs : List Timer) → rs ≡ timers_taken timers_place block → rs ≡ (unpacked block).timers
-  unfolding timers_taken unpacked
+  unfolding values_taken unpacked
   filled_timers rs e = e ∙ rw size
 
   unpacked_is : (priority state arrived list operator awaits holder entries opened bound lengths element criterion ticks : List ℕ) (timers : List Timer)
@@ -99,7 +95,7 @@ module _ (block : List ℕ) (size : length block ≡ block_size) where
   -- an array of the right length, whatever stood there, filled from a place on
   refilled : (place width count : ℕ) (old ns : List ℕ) → leb (place + width * count) block_size ≡ true → length old ≡ count
       → ns ≡ taken width place block old → ns ≡ part place width count block
-  unfolding taken
+  unfolding values_taken
   refilled place width count old ns h l e = e ∙ rw (l, size, h)
 
   element_is : (old es : List ℕ) → length old ≡ store_size → es ≡ taken word_width element_place block old → es ≡ (unpacked block).element

@@ -1,11 +1,9 @@
 -- The lengths of a table's arrays.
-use Prim.Native.Nat.{ℕ, zero, suc}
-use mathlib.Core.Path.{◌≡◌, refl, sym, ap, ◌∙◌}
-use mathlib.Core.List.{List, map}
-use lib.ListN.{length, drop, length-map}
+use Rattle.std.proofs.Common.{ℕ, zero, suc, ◌≡◌, refl, sym, ap, ◌∙◌, List, map, length, drop}
+use lib.ListN.{length-map}
 use Rattle.rules.specs.declared.Table.{Table}
 use Rattle.rules.specs.Numbers.{task_room, region_room, queue_room, store_size, timer_room}
-use Rattle.packing.specs.Bytes.{half_width, word_width}
+use Rattle.packing.specs.Bytes.{values_in, half_width, word_width}
 use Rattle.packing.specs.Timers.{timer_width, timers_in}
 use Rattle.packing.proofs.RoundTrips.{numbers_length}
 use Rattle.layout.specs.Layout.{priority_place, state_place, arrived_place, list_place, operator_place, awaits_place, holder_place, entries_place, opened_place, bound_place, length_place, element_place, criterion_place, timers_place, unpacked}
@@ -33,7 +31,7 @@ length_mapped X Y f l n e = sym (length-map l f) ∙ e
 
 -- the arrays of a block's table have their lengths
 timers_sized : (count : ℕ) (bs : List ℕ) → length (timers_in count bs) ≡ count
-unfolding timers_in
+unfolding values_in
 timers_sized zero bs = refl
 timers_sized (suc count) bs = ap suc (timers_sized count (drop timer_width bs))
 

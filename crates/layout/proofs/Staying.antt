@@ -1,18 +1,10 @@
 -- What is in a block already need not be written.
-use Prim.Native.Nat.{ℕ, ◌+◌, ◌*◌}
-use mathlib.Core.Path.{◌≡◌, refl, sym, ap, ◌∙◌}
-use mathlib.Core.Bool.{true}
-use mathlib.Core.List.{List, append_assoc}
-use native.Mathlib.Omega.{arith}
-use lib.Dec.{leb}
-use lib.ListN.{length, take, drop, length-drop, take-append-drop}
-use lib.Seq.{drop_at, drop-drop, length-take-le}
-use borrow.Author.Tests.{leb-true}
+use Rattle.std.proofs.Common.{ℕ, ◌+◌, ◌*◌, ◌≡◌, refl, sym, ap, ◌∙◌, true, List, append_assoc, arith, leb, length, take, drop, length-drop, take-append-drop, drop_at, drop-drop, length-take-le, leb-true}
 use Rattle.rules.specs.Numbers.{store_size}
 use Rattle.rules.specs.Words.{every}
 use Rattle.tables.specs.declared.front.Front.{Front}
 use Rattle.tables.specs.Fronts.{whole}
-use Rattle.packing.specs.Bytes.{word_width, spread, over, put}
+use Rattle.packing.specs.Bytes.{values_put, word_width, spread, over, put}
 use Rattle.packing.proofs.RoundTrips.{is_byte, numbers_length}
 use Rattle.layout.specs.Layout.{element_place, criterion_place, block_size, part, unpacked, packed}
 use Rattle.layout.proofs.Back.{column}
@@ -24,7 +16,7 @@ use Rattle.layout.proofs.Writing.{written_length, head_of, head_next, whole_put_
 module _ (old block : List ℕ) (small : every is_byte old ≡ true) (size : length old ≡ block_size) (long : length block ≡ block_size) where
   put_own : (place width count : ℕ) → leb (place + width * count) block_size ≡ true → drop place block ≡ drop place old
       → put width place (part place width count old) block ≡ block
-  unfolding put over
+  unfolding values_put over
   put_own place width count h same =
       let fits = leb-true (place + width * count) block_size h in
       let own : spread width (part place width count old) ≡ take (width * count) (drop place block) =

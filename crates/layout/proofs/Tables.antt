@@ -1,10 +1,5 @@
 -- Whether a block is a table, test by test, and the number of the answer where it is none.
-use Prim.Native.Nat.{ℕ}
-use mathlib.Core.Path.{◌≡◌, refl}
-use mathlib.Core.Bool.{Bool, true, false}
-use mathlib.Core.List.{List, [], ◌∷◌}
-use lib.ListN.{length}
-use borrow.Author.Tests.{eq-eqb, ne_eqb}
+use Rattle.std.proofs.Common.{ℕ, ◌≡◌, refl, Bool, true, false, List, [], ◌∷◌, length, eq-eqb, ne_eqb}
 use Rattle.rules.specs.Words.{all}
 use Rattle.rules.specs.Validity.{valid}
 use Rattle.packing.specs.Answers.{answer_number}

@@ -1,18 +1,10 @@
 -- A table written part by part over a block of the right size is the block of the table.
-use Prim.Native.Nat.{ℕ, ◌+◌, ◌*◌, ◌≤◌}
-use mathlib.Core.Path.{◌≡◌, refl, sym, ap, ◌∙◌}
-use mathlib.Core.Bool.{true}
-use mathlib.Core.List.{List, [], ◌∷◌, ◌++◌, append-nil}
-use native.Mathlib.Omega.{arith}
-use lib.Dec.{leb}
-use lib.ListN.{length, take, drop, drop_of_length-le, length-append, length-drop}
-use lib.Seq.{take_at, drop_at, drop-drop}
-use borrow.Author.Tests.{leb-true}
+use Rattle.std.proofs.Common.{ℕ, ◌+◌, ◌*◌, ◌≤◌, ◌≡◌, refl, sym, ap, ◌∙◌, true, List, [], ◌∷◌, ◌++◌, append-nil, arith, leb, length, take, drop, drop_of_length-le, length-append, length-drop, take_at, drop_at, drop-drop, leb-true}
 use Rattle.rules.specs.declared.Timer.{Timer}
 use Rattle.rules.specs.Numbers.{task_room, region_room, queue_room, store_size, timer_room}
 use Rattle.tables.specs.declared.front.Front.{Front}
 use Rattle.tables.specs.Fronts.{whole}
-use Rattle.packing.specs.Bytes.{half_width, word_width, bytes, spread, over, put}
+use Rattle.packing.specs.Bytes.{values_bytes, values_put, half_width, word_width, bytes, spread, over, put}
 use Rattle.packing.specs.Timers.{timer_width, timers_bytes, timers_put}
 use Rattle.packing.proofs.RoundTrips.{spread_length, timers_length}
 use Rattle.layout.specs.Layout.{priority_place, state_place, arrived_place, list_place, operator_place, awaits_place, holder_place, entries_place, opened_place, bound_place, length_place, element_place, criterion_place, ticks_place, timers_place, block_size, packed}
@@ -46,7 +38,7 @@ module _ (old : List ℕ) (size : length old ≡ block_size) where
   column_next : (place width count : ℕ) {front block : List ℕ} (ns after : List ℕ) → Written place front old block → length ns ≡ count
       → leb (place + width * count) block_size ≡ true → after ≡ put width place ns block
       → Written (place + width * count) (front ++ spread width ns) old after
-  unfolding put
+  unfolding values_put
   column_next place width count {front} {block} ns after w l h e =
       let fits = leb-true (place + width * count) block_size h in
       let long = written_length place front block (omega arith) w in
@@ -83,11 +75,11 @@ head_of f =
     ++ spread 1 f.length
 
 four_bytes : (a b c d : ℕ) → spread 1 (a ∷ b ∷ c ∷ d ∷ []) ≡ bytes 1 a ++ bytes 1 b ++ bytes 1 c ++ bytes 1 d
-unfolding spread bytes
+unfolding values_bytes bytes
 four_bytes a b c d = refl
 
 one_word : (n : ℕ) → spread word_width (n ∷ []) ≡ bytes word_width n
-unfolding spread
+unfolding values_bytes
 one_word n = append-nil (bytes word_width n)
 
 -- up to the store

@@ -3,9 +3,7 @@
 --     Said         what it says of the line that it returns and of the Reader that it leaves
 --     asks_next    the rule for such a call, in the walk of any function that has the token of the log's lifetime
 -- Assumes `Logic`.
-use mathlib.Core.Path.{◌≡◌}
-use Prim.Native.Nat.{ℕ}
-use mathlib.Core.List.{List, [], ◌∷◌}
+use Rattle.std.proofs.Common.{◌≡◌, ℕ, List, [], ◌∷◌}
 use seplogic.Ra.Ura.{Ura}
 use base.Share
 use mir.Syntax.{Opd as Operand, Place, Body, named, seq, call}

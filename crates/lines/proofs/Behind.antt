@@ -1,12 +1,6 @@
 -- Laws of what is left behind a line: a reader that has moved behind a line has ahead of it what stood behind the first line of what it had ahead.
-use Prim.Native.Nat.{ℕ, zero, suc, ◌+◌, ◌≤◌}
-use mathlib.Core.Path.{◌≡◌, refl, sym, ap, ◌∙◌}
-use mathlib.Core.Bool.{Bool, true, false, cond}
-use mathlib.Core.List.{List, [], ◌∷◌}
-use native.Mathlib.Omega.{arith}
-use lib.Dec.{eqb, ltb}
-use lib.ListN.{length, drop, length-drop, drop_of_length-le}
-use lib.Seq.{drop-length, drop-drop}
+use Rattle.std.proofs.Common.{ℕ, zero, suc, ◌+◌, ◌≤◌, ◌≡◌, refl, sym, ap, ◌∙◌, Bool, true, false, cond, List, [], ◌∷◌, arith, eqb, ltb, length, drop, length-drop, drop_of_length-le, drop-drop}
+use lib.Seq.{drop-length}
 use borrow.Author.Tests.{eqb-true}
 use Rattle.lines.specs.declared.ends.Line.TheVariants.{Whole, TooLong, Unended, Nothing}
 use Rattle.lines.specs.Ends.{longest, line_length, line_in, line_at}

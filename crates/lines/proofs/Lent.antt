@@ -4,8 +4,7 @@
 --     lends                [ν]_1 ∗ [κ]_q ∗ (r lies there)  ⊢ ⇛ ∃ δ. ([ν ∷ κ] ∗ [κ]) ∗ own (the `&(ν ∷ κ) mut Reader`) ∗ Kept ν δ        each token at a half of q
 --     comes_back           ([ν ∷ κ] ∗ [κ]) ∗ Kept ν δ ∗ res δ w  ⊢ ⇛ ([κ]_q ∗ what the local holds ∗ own w)
 -- Assumes `Logic`.
-use Prim.Native.Nat.{ℕ}
-use mathlib.Core.List.{List, [], ◌∷◌}
+use Rattle.std.proofs.Common.{ℕ, List, [], ◌∷◌}
 use seplogic.Ra.Ura.{Ura}
 use base.Share
 use base.Fraction.{full_share}

@@ -1,59 +1,62 @@
--- Laws of the search for a line feed, a turn and the end of it, and of what is found there.
-use Prim.Native.Nat.{ℕ, suc, ◌+◌, ◌-◌, ◌<◌, ◌≤◌}
-use mathlib.Core.Path.{◌≡◌}
-use mathlib.Core.Bool.{false}
-use mathlib.Core.List.{List}
-use native.Mathlib.Numerals.{add-one}
-use native.Mathlib.Omega.{arith}
-use lib.Dec.{eqb}
-use lib.ListN.{length, drop, get_or, length-drop, drop_of_length-le}
-use lib.Seq.{drop-cons}
-use borrow.Author.Tests.{eq-eqb, ne_eqb, lt-ltb, le-ltb}
+-- Laws of what begins at a place, by where the search for a line feed ends.
+use Rattle.std.proofs.Common.{◌≡◌, ℕ, ◌+◌, ◌<◌, ◌≤◌, Bool, true, false, cond, Option, Some, None, List, [], ◌∷◌, eqb, ltb, length, drop, position, refl, arith}
+use Rattle.std.specs.List.{position_or_len}
+use borrow.Author.Tests.{eq-eqb, ne_eqb, lt-ltb, le-ltb, ltb-true, ltb-false}
 use Rattle.rules.specs.Queues.{before}
+use Rattle.rules.proofs.Retrieve.{before_le}
 use Rattle.lines.specs.declared.ends.Line.TheVariants.{Whole, TooLong, Unended, Nothing}
 use Rattle.lines.specs.Ends.{line_feed, longest, line_at, line_in}
 
-module _ (b i : ℕ) (l : List ℕ) {z : ℕ} where
-  pub search_again : i + before b (drop i l) ≡ z → (get_or l i 0 ≡ b → ⊥) → i < length l → i + 1 + before b (drop (i + 1) l) ≡ z
-  unfolding before
-  search_again k n h =
-      let rest : i + suc (before b (drop (suc i) l)) ≡ z = simp (ne_eqb (get_or l i 0) b n) at (rw (drop-cons l i 0) at k) in
-      rw add-one (omega arith)
+-- ---- the search: the place of the first line feed is how many bytes stand before it
 
-  pub search_here : i + before b (drop i l) ≡ z → get_or l i 0 ≡ b → i < length l → i ≡ z
-  unfolding before
-  search_here k e h = let rest : i + 0 ≡ z = simp (eq-eqb (get_or l i 0) b e) at (rw (drop-cons l i 0) at k) in omega arith
+before_position : (b : ℕ) (l : List ℕ) → position_or_len (λ x. eqb x b) l ≡ before b l
+unfolding before
+before_position b [] = refl
+before_position b (x ∷ xs) = go (eqb x b) refl (before_position b xs)
+  where
+    go : (t : Bool) → eqb x b ≡ t → position_or_len (λ x. eqb x b) xs ≡ before b xs → position_or_len (λ x. eqb x b) (x ∷ xs) ≡ before b (x ∷ xs)
+    go true e ih = rw e refl
+    go false e ih = rw (e, ih) (omega arith)
 
-  pub search_end : i + before b (drop i l) ≡ z → i ≤ length l → length l ≤ i → length l ≡ z
-  unfolding before
-  search_end k h g = let rest : i + 0 ≡ z = rw (drop_of_length-le l) at k in omega arith
+module _ (l : List ℕ) where
+  found : (n : ℕ) → Some n ≡ position (λ x. eqb x line_feed) l → (n ≡ before line_feed l) × (n < length l)
+  found n e = go (ltb (before line_feed l) (length l)) refl (rw (before_position line_feed l) at e)
+    where
+      go : (t : Bool) → ltb (before line_feed l) (length l) ≡ t → Some n ≡ cond t (Some (before line_feed l)) None
+          → (n ≡ before line_feed l) × (n < length l)
+      go true h k = let same : n ≡ before line_feed l = cc in (same, rw same (ltb-true (before line_feed l) (length l) h))
+      go false h k = absurd (cc)
 
--- ---- what begins at a place, by where the search ends
+  not_found : None ≡ position (λ x. eqb x line_feed) l → before line_feed l ≡ length l
+  not_found e = go (ltb (before line_feed l) (length l)) refl (rw (before_position line_feed l) at e)
+    where
+      go : (t : Bool) → ltb (before line_feed l) (length l) ≡ t → ◌≡◌ {A = Option ℕ} None (cond t (Some (before line_feed l)) None) → before line_feed l ≡ length l
+      go true h k = absurd (cc)
+      go false h k = omega (arith, ltb-false (before line_feed l) (length l) h, before_le line_feed l)
 
-pub line_nothing : (s : List ℕ) (at : ℕ) → length s ≤ at → Nothing ≡ line_at s at
-unfolding line_at line_in
-line_nothing s at h = let none : length (drop at s) ≡ 0 = rw length-drop (omega arith) in simp (eq-eqb (length (drop at s)) 0 none)
+-- ---- what begins at a place, whose rest this is
 
-module _ (s : List ℕ) (at end : ℕ) (some : at < length s) (e : end ≡ at + before line_feed (drop at s)) where
-  left : length (drop at s) ≡ length s - at
-  left = length-drop at s
-
-  some_left : eqb (length (drop at s)) 0 ≡ false
-  some_left = ne_eqb (length (drop at s)) 0 (λ k. omega (arith, left))
-
-  pub line_unended : end ≡ length s → Unended ≡ line_at s at
+module _ (s : List ℕ) (at : ℕ) (rest : List ℕ) (e : rest ≡ drop at s) where
+  pub line_nothing : length rest ≡ 0 → Nothing ≡ line_at s at
   unfolding line_at line_in
-  line_unended k =
-      let all : before line_feed (drop at s) ≡ length (drop at s) = omega (arith, left) in
-      simp (some_left, eq-eqb (before line_feed (drop at s)) (length (drop at s)) all)
+  line_nothing h = rw (← e, eq-eqb (length rest) 0 h)
 
-  not_all : (end ≡ length s → ⊥) → eqb (before line_feed (drop at s)) (length (drop at s)) ≡ false
-  not_all n = ne_eqb (before line_feed (drop at s)) (length (drop at s)) (λ k. n (omega (arith, left)))
+  module _ (some : length rest ≡ 0 → ⊥) where
+    pub line_unended : None ≡ position (λ x. eqb x line_feed) rest → Unended ≡ line_at s at
+    unfolding line_at line_in
+    line_unended k = rw (← e, ne_eqb (length rest) 0 some, eq-eqb (before line_feed rest) (length rest) (not_found rest k))
 
-  pub line_too_long : (end ≡ length s → ⊥) → longest < end - at → TooLong (end + 1) ≡ line_at s at
-  unfolding line_at line_in
-  line_too_long n k = let over : longest < before line_feed (drop at s) = omega arith in simp (some_left, not_all n, lt-ltb longest (before line_feed (drop at s)) over, e)
+    module _ (n : ℕ) (k : Some n ≡ position (λ x. eqb x line_feed) rest) where
+      here : n ≡ before line_feed rest
+      here = (found rest n k).0
 
-  pub line_whole : (end ≡ length s → ⊥) → end - at ≤ longest → Whole at end (end + 1) ≡ line_at s at
-  unfolding line_at line_in
-  line_whole n k = let fits : before line_feed (drop at s) ≤ longest = omega arith in simp (some_left, not_all n, le-ltb longest (before line_feed (drop at s)) fits, e)
+      ended : eqb (before line_feed rest) (length rest) ≡ false
+      ended = ne_eqb (before line_feed rest) (length rest) (λ all. let inside = (found rest n k).1 in omega (arith, here))
+
+      pub line_too_long : longest < n → TooLong (at + n + 1) ≡ line_at s at
+      unfolding line_at line_in
+      line_too_long h = rw (← e, ne_eqb (length rest) 0 some, ended, ← here, lt-ltb longest n h)
+
+      pub line_whole : n ≤ longest → Whole at (at + n) (at + n + 1) ≡ line_at s at
+      unfolding line_at line_in
+      line_whole h = rw (← e, ne_eqb (length rest) 0 some, ended, ← here, le-ltb longest n h)

@@ -1,12 +1,5 @@
 -- A whole line begins at its place, and it and its line feed lie within the input.
-use Prim.Native.Nat.{ℕ, ◌+◌, ◌<◌, ◌≤◌}
-use mathlib.Core.Path.{◌≡◌, refl, sym, ◌∙◌}
-use mathlib.Core.Bool.{Bool, true, false, cond}
-use mathlib.Core.List.{List}
-use native.Mathlib.Omega.{arith}
-use lib.Dec.{eqb, ltb}
-use lib.ListN.{length, drop, get_or, length-drop}
-use lib.Seq.{get_or-drop}
+use Rattle.std.proofs.Common.{ℕ, ◌+◌, ◌<◌, ◌≤◌, ◌≡◌, refl, sym, ◌∙◌, Bool, true, false, cond, List, arith, eqb, ltb, length, drop, get_or, length-drop, get_or-drop}
 use borrow.Author.Tests.{eqb-false}
 use Rattle.rules.specs.Queues.{before}
 use Rattle.rules.proofs.Retrieve.{before_le, before_here}

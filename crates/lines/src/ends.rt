@@ -1,12 +1,13 @@
 // The line reader, over a slice and a place by value.
-ghost use Rattle.std.specs.Prelude.{◌≡◌, ◌+◌, ◌≤◌, length, drop};
-ghost use Rattle.lines.specs.Ends.{line_length, line_at};
+ghost use Rattle.std.specs.Prelude.{◌≡◌, drop, eqb, position};
+ghost use Rattle.lines.specs.Ends.{line_feed, line_at};
 ghost use Rattle.lines.specs.Reading.{place_after};
 
 // The most bytes that a line may have before its line feed.
 pub const LONGEST: usize = 192;
 
-// What begins at a place.
+// What begins at a place. That no byte stands there is one of the four, and no `Option` around the others: whoever asks for a line tells
+// them apart in one `match`, and the last two mean the same to most.
 #[derive(Clone, Copy)]
 pub enum Line {
     // A line of at most LONGEST bytes, start..end, and the place behind its line feed.
@@ -25,40 +26,29 @@ pub enum Line {
     Nothing,
 }
 
-// The place of the first line feed from `at` on, or the end.
-#[tactic(auto, using(crate::proofs::Search::search_again, crate::proofs::Search::search_here, crate::proofs::Search::search_end))]
-fn line_feed_from(s: &[u8], at: usize) -> usize
-    requires { at ≤ length s.now }
-    ensures first { result ≡ at + line_length (drop at s.now) }
-    ensures within { result ≤ length s.now }
+// How many bytes stand before the first line feed.
+fn line_feed_in(s: &[u8]) -> Option<usize>
+    ensures { result ≡ position (λ b. eqb b line_feed) s.now }
 {
-    for i in at..s.len() {
-        if s[i] == b'\n' {
-            return i;
-        }
-    }
-    s.len()
+    s.iter().position(|&b| b == b'\n')
 }
 
 // The line that begins at a place.
-#[tactic(auto, using(crate::proofs::Search::line_nothing, crate::proofs::Search::line_unended, crate::proofs::Search::line_too_long, crate::proofs::Search::line_whole))]
 pub(crate) fn line_at(s: &[u8], at: usize) -> Line
     ensures { result ≡ line_at s.now at }
 {
-    if s.len() <= at {
+    let rest = rest_at(s, at);
+    if rest.is_empty() {
         return Line::Nothing;
     }
-    let end = line_feed_from(s, at);
-    if end == s.len() {
-        return Line::Unended;
-    }
-    if LONGEST < end - at {
-        return Line::TooLong { next: end + 1 };
-    }
-    Line::Whole {
-        start: at,
-        end: end,
-        next: end + 1,
+    match line_feed_in(rest) {
+        None => Line::Unended,
+        Some(n) if LONGEST < n => Line::TooLong { next: at + n + 1 },
+        Some(n) => Line::Whole {
+            start: at,
+            end: at + n,
+            next: at + n + 1,
+        },
     }
 }
 
@@ -67,14 +57,8 @@ pub(crate) fn place_after(s: &[u8], line: Line) -> usize
     ensures { result ≡ place_after s.now line }
 {
     match line {
-        Line::Whole {
-            start: _,
-            end: _,
-            next,
-        } => next,
-        Line::TooLong { next } => next,
-        Line::Unended => s.len(),
-        Line::Nothing => s.len(),
+        Line::Whole { next, .. } | Line::TooLong { next } => next,
+        Line::Unended | Line::Nothing => s.len(),
     }
 }
 
@@ -82,8 +66,5 @@ pub(crate) fn place_after(s: &[u8], line: Line) -> usize
 pub(crate) fn rest_at(s: &[u8], at: usize) -> &[u8]
     ensures { result.now ≡ drop at s.now }
 {
-    if at < s.len() {
-        return &s[at..];
-    }
-    &s[s.len()..]
+    &s[at.min(s.len())..]
 }

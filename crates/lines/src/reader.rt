@@ -62,8 +62,5 @@ fn walked_over<'a>(log: &'a [u8], n: usize) -> &'a [u8]
 pub fn behind_lines<'a>(log: &'a [u8], n: usize) -> &'a [u8]
     ensures { result.now ≡ behind_lines n log.now }
 {
-    if log.len() < n {
-        return walked_over(log, log.len());
-    }
-    walked_over(log, n)
+    walked_over(log, n.min(log.len()))
 }

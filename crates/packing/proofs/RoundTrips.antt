@@ -1,20 +1,15 @@
 -- Bytes written and read again, and read and written again, are what they were: numbers of every width, and timers.
-use Prim.Native.Nat.{ℕ, zero, suc, ◌+◌, ◌*◌, ◌/◌, ◌%◌, ◌^◌, ◌<◌, ◌≤◌}
-use mathlib.Core.Path.{◌≡◌, refl, sym, ap, ap₂, ◌∙◌}
-use mathlib.Core.Bool.{Bool, true}
-use mathlib.Core.List.{List, [], ◌∷◌, ◌++◌, append_assoc}
-use native.Mathlib.Omega.{arith}
-use native.Mathlib.Nat.{one-le-pow, mod-eq_of_lt}
-use lib.Dec.{ltb}
-use lib.ListN.{get_or, length, take, drop, length-append, length-drop}
-use lib.Seq.{take_at, drop_at, take-add, drop-cons, get_or-drop, get_or-append-add, length-take-le}
-use borrow.Author.Tests.{ltb-true, lt-ltb}
+use Rattle.std.proofs.Common.{ℕ, zero, suc, ◌+◌, ◌*◌, ◌/◌, ◌%◌, ◌^◌, ◌<◌, ◌≤◌, ◌≡◌, refl, sym, ap, ap₂, ◌∙◌, Bool, true, List, [], ◌∷◌, ◌++◌, append_assoc, arith, mod-eq_of_lt, ltb, get_or, length, take, drop, length-append, length-drop, take_at, drop_at, take-add, drop-cons, get_or-drop, get_or-take, get_or-append-add, length-take-le, ltb-true, lt-ltb}
+use native.Mathlib.Nat.{one-le-pow}
+use Rattle.std.proofs.lemmas.List.{drop-take, take-take}
 use Rattle.rules.specs.declared.Timer.{Timer}
+use Rattle.rules.specs.Numbers.{timer_room}
 use Rattle.rules.specs.Words.{all, every}
 use Rattle.rules.proofs.Bools.{given}
 use Rattle.rules.proofs.Lists.{every_head, every_tail, every_cons, every_nil, every_in, every_append, every_take, every_drop}
-use Rattle.packing.specs.Bytes.{word_width, number, bytes, numbers, spread}
-use Rattle.packing.specs.Timers.{timer_width, unused_place, date_place, timer_in, timer_bytes, timers_in, timers_bytes}
+use Rattle.packing.specs.Bytes.{word_width, number, bytes, values_in, values_bytes, values_put, numbers, spread}
+use Rattle.packing.specs.Timers.{timer_width, unused_place, date_place, timer_in, timer_bytes, timers_in, timers_bytes, timers_put}
+pub use Rattle.packing.specs.Widths.{bytes_length, timer_length}
 
 -- a number of so many bytes
 abbrev pub fits : ℕ → ℕ → Bool
@@ -24,11 +19,6 @@ abbrev pub is_byte : ℕ → Bool
 is_byte n = fits 1 n
 
 -- ---- one number
-
-pub bytes_length : (width n : ℕ) → length (bytes width n) ≡ width
-unfolding bytes
-bytes_length zero n = refl
-bytes_length (suc width) n = ap suc (bytes_length width (n / 256))
 
 pub bytes_small : (width n : ℕ) → every is_byte (bytes width n) ≡ true
 unfolding bytes
@@ -72,17 +62,17 @@ take_next place n block front part e f = ap₂ (λ xs ys. xs ++ ys) e f ∙ sym 
 -- ---- numbers one behind the other
 
 pub spread_length : (width : ℕ) (ns : List ℕ) → length (spread width ns) ≡ width * length ns
-unfolding spread
+unfolding values_bytes
 spread_length width [] = omega arith
 spread_length width (n ∷ ns) = simp (length-append, bytes_length, spread_length width ns) (omega arith)
 
 pub spread_small : (width : ℕ) (ns : List ℕ) → every is_byte (spread width ns) ≡ true
-unfolding spread
+unfolding values_bytes
 spread_small width [] = every_nil is_byte
 spread_small width (n ∷ ns) = every_append is_byte (bytes width n) (spread width ns) (bytes_small width n) (spread_small width ns)
 
 pub numbers_spread : (width : ℕ) (ns rest : List ℕ) → every (fits width) ns ≡ true → numbers width (length ns) (spread width ns ++ rest) ≡ ns
-unfolding numbers spread
+unfolding values_in values_bytes
 numbers_spread width [] rest h = refl
 numbers_spread width (n ∷ ns) rest h =
     rw (
@@ -94,12 +84,12 @@ numbers_spread width (n ∷ ns) rest h =
     )
 
 pub numbers_length : (width count : ℕ) (bs : List ℕ) → length (numbers width count bs) ≡ count
-unfolding numbers
+unfolding values_in
 numbers_length width zero bs = refl
 numbers_length width (suc count) bs = ap suc (numbers_length width count (drop width bs))
 
 pub numbers_fit : (width count : ℕ) (bs : List ℕ) → every is_byte bs ≡ true → every (fits width) (numbers width count bs) ≡ true
-unfolding numbers
+unfolding values_in
 numbers_fit width zero bs h = every_nil (fits width)
 numbers_fit width (suc count) bs h =
     every_cons (fits width) (number (take width bs)) (numbers width count (drop width bs))
@@ -114,7 +104,7 @@ bytes_front width bs h l =
 
 pub spread_numbers : (width count : ℕ) (bs : List ℕ) → every is_byte bs ≡ true → width * count ≤ length bs
     → spread width (numbers width count bs) ≡ take (width * count) bs
-unfolding spread numbers
+unfolding values_bytes values_in
 spread_numbers width zero bs h l = let z : width * 0 ≡ 0 = omega arith in rw z
 spread_numbers width (suc count) bs h l =
     let e : width * suc count ≡ width + width * count = omega arith in
@@ -133,9 +123,17 @@ byte_at i bs h l =
 unfoldable pub timer_fits : Timer → Bool
 timer_fits r = all (fits 1 r.armed ∷ fits 1 r.owner ∷ fits 1 r.event ∷ fits word_width r.date ∷ [])
 
-pub timer_length : (r : Timer) → length (timer_bytes r) ≡ timer_width
-unfolding timer_bytes bytes
-timer_length r = refl
+-- a timer is read from its own bytes alone
+timer_own : (bs : List ℕ) → timer_in (take timer_width bs) ≡ timer_in bs
+unfolding timer_in
+timer_own bs =
+    rw (
+      get_or-take timer_width bs 0 0 (omega arith),
+      get_or-take timer_width bs 1 0 (omega arith),
+      get_or-take timer_width bs 2 0 (omega arith),
+      drop-take date_place word_width bs,
+      take-take word_width word_width (drop date_place bs) (omega arith),
+    )
 
 timer_small : (r : Timer) → every is_byte (timer_bytes r) ≡ true
 unfolding timer_bytes
@@ -172,26 +170,26 @@ timer_written bs h l z =
     (bytes_front word_width (drop date_place bs) (every_drop is_byte date_place bs h) (rw length-drop (omega arith)))
 
 pub timers_length : (rs : List Timer) → length (timers_bytes rs) ≡ timer_width * length rs
-unfolding timers_bytes
+unfolding values_bytes
 timers_length [] = refl
 timers_length (r ∷ rs) = simp (length-append, timer_length, timers_length rs) (omega arith)
 
 pub timers_small : (rs : List Timer) → every is_byte (timers_bytes rs) ≡ true
-unfolding timers_bytes
+unfolding values_bytes
 timers_small [] = every_nil is_byte
 timers_small (r ∷ rs) = every_append is_byte (timer_bytes r) (timers_bytes rs) (timer_small r) (timers_small rs)
 
 pub timers_read : (rs : List Timer) (rest : List ℕ) → every timer_fits rs ≡ true → timers_in (length rs) (timers_bytes rs ++ rest) ≡ rs
-unfolding timers_in timers_bytes
+unfolding values_in values_bytes
 timers_read [] rest h = refl
 timers_read (r ∷ rs) rest h =
-    rw (append_assoc (timer_bytes r) (timers_bytes rs) rest, timer_read r (timers_bytes rs ++ rest) (every_head timer_fits r rs h))
+    rw (append_assoc (timer_bytes r) (timers_bytes rs) rest, timer_own (timer_bytes r ++ (timers_bytes rs ++ rest)), timer_read r (timers_bytes rs ++ rest) (every_head timer_fits r rs h))
     (ap (λ l. r ∷ l)
     (ap (timers_in (length rs)) (drop_at (timer_bytes r) (timers_bytes rs ++ rest) timer_width (timer_length r))
     ∙ timers_read rs rest (every_tail timer_fits r rs h)))
 
 pub timers_unused : (rs : List Timer) (rest : List ℕ) (i : ℕ) → i < length rs → get_or (timers_bytes rs ++ rest) (timer_width * i + unused_place) 0 ≡ 0
-unfolding timers_bytes
+unfolding values_bytes
 timers_unused [] rest i l = absurd (omega arith)
 timers_unused (r ∷ rs) rest zero l = rw append_assoc (timer_unused r (timers_bytes rs ++ rest))
 timers_unused (r ∷ rs) rest (suc i) l =
@@ -201,11 +199,11 @@ timers_unused (r ∷ rs) rest (suc i) l =
 pub timers_written : (count : ℕ) (bs : List ℕ) → every is_byte bs ≡ true → timer_width * count ≤ length bs
     → ((i : ℕ) → i < count → get_or bs (timer_width * i + unused_place) 0 ≡ 0)
     → timers_bytes (timers_in count bs) ≡ take (timer_width * count) bs
-unfolding timers_in timers_bytes
+unfolding values_in values_bytes
 timers_written zero bs h l z = refl
 timers_written (suc count) bs h l z =
     let e : timer_width * suc count ≡ timer_width + timer_width * count = omega arith in
-    rw e
+    rw (e, timer_own bs)
     (take_next timer_width (timer_width * count) bs _ _ (timer_written bs h (omega arith) (z 0 (omega arith)))
     (timers_written count (drop timer_width bs) (every_drop is_byte timer_width bs h) (rw length-drop (omega arith)) later))
   where
@@ -213,3 +211,8 @@ timers_written (suc count) bs h l z =
     later i k =
         let place : timer_width + (timer_width * i + unused_place) ≡ timer_width * suc i + unused_place = omega arith in
         rw (get_or-drop, place) (z (suc i) (omega arith))
+
+-- the table's timers, as many as there are, are written as any values are
+pub timers_put_is : (at : ℕ) (rs : List Timer) (block : List ℕ) → length rs ≡ timer_room → values_put timer_width timer_bytes at rs block ≡ timers_put at rs block
+unfolding values_put timers_put
+timers_put_is at rs block l = rw l

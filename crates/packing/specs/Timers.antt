@@ -1,9 +1,9 @@
 -- A timer in eight bytes: armed, owner, event, one byte that is not used, and the date.
-use Rattle.std.specs.Prelude.{ℕ, zero, suc, cond, List, [], ◌∷◌, ◌++◌, get_or, length, take, drop, replicate}
+use Rattle.std.specs.Prelude.{ℕ, cond, List, ◌++◌, get_or, length, take, drop, replicate}
 use Rattle.rules.specs.declared.Timer.{Timer}
 use Rattle.rules.specs.Numbers.{timer_room}
 use Rattle.rules.specs.Timers.{idle}
-use Rattle.packing.specs.Bytes.{word_width, number, bytes, over, has_room}
+use Rattle.packing.specs.Bytes.{word_width, number, bytes, values_in, values_bytes, values_taken, over, has_room}
 
 abbrev pub timer_width : ℕ
 timer_width = 8
@@ -22,18 +22,15 @@ unfoldable pub timer_bytes : Timer → List ℕ
 timer_bytes r = bytes 1 r.armed ++ bytes 1 r.owner ++ bytes 1 r.event ++ bytes 1 0 ++ bytes word_width r.date
 
 -- as many timers, from the front
-unfoldable pub timers_in : ℕ → List ℕ → List Timer
-timers_in zero bs = []
-timers_in (suc count) bs = timer_in bs ∷ timers_in count (drop timer_width bs)
+abbrev pub timers_in : ℕ → List ℕ → List Timer
+timers_in count bs = values_in timer_width timer_in count bs
 
-unfoldable pub timers_bytes : List Timer → List ℕ
-timers_bytes [] = []
-timers_bytes (r ∷ rs) = timer_bytes r ++ timers_bytes rs
+abbrev pub timers_bytes : List Timer → List ℕ
+timers_bytes rs = values_bytes timer_bytes rs
 
 -- the table's timers from a place on; all idle where the block ends before
-unfoldable pub timers_taken : ℕ → List ℕ → List Timer
-timers_taken at block =
-    cond (has_room (length block) at timer_width timer_room) (timers_in timer_room (drop at block)) (replicate timer_room idle)
+abbrev pub timers_taken : ℕ → List ℕ → List Timer
+timers_taken at block = values_taken timer_width timer_in at block (replicate timer_room idle)
 
 -- the block with the table's timers written from a place on; the block as it was where it ends before
 unfoldable pub timers_put : ℕ → List Timer → List ℕ → List ℕ

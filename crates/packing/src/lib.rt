@@ -4,10 +4,12 @@
 mod packed_answer;
 mod read;
 mod room;
+mod value;
 mod width;
 mod write;
 
 pub use packed_answer::{NOT_A_TABLE, answer_number};
-pub use read::{take_bytes, take_halves, take_words, timers_at};
+pub use read::take;
+pub use value::Packed;
 pub use width::{HALF_WIDTH, TIMER_WIDTH, UNUSED, WORD_WIDTH};
-pub use write::{put_bytes, put_halves, put_timers, put_words};
+pub use write::put;

@@ -1,19 +1,15 @@
 -- What a part of the store means to a table: the place that RETRIEVE takes from is its queue's, and the gap closed is its queue without it.
-use Prim.Native.Nat.{ℕ, ◌+◌, ◌-◌, ◌<◌, ◌≤◌}
-use mathlib.Core.Path.{◌≡◌, ◌∙◌}
-use mathlib.Core.List.{List}
-use native.Mathlib.Omega.{arith}
-use lib.Dec.{leb}
-use lib.ListN.{get_or, set}
-use borrow.Author.Tests.{lt-ltb, le-leb, leb-true}
+use Rattle.std.proofs.Common.{ℕ, ◌+◌, ◌-◌, ◌<◌, ◌≤◌, ◌≡◌, ◌∙◌, refl, List, Bool, true, false, cond, ◌&&◌, Some, None, ltb, ltb-true, le-ltb, arith, leb, get_or, set, lt-ltb, le-leb, leb-true}
+use Rattle.std.proofs.Math.Seq.{slice}
 use Rattle.rules.specs.declared.Table.{Table}
 use Rattle.rules.specs.Numbers.{queue_room, store_size}
-use Rattle.rules.specs.Queues.{pair, no_pair, first_place, front, place, none_fits, without, closed}
+use Rattle.queues.proofs.Found.{some_by}
+use Rattle.rules.specs.Queues.{before, wanted, pair, no_pair, first_place, front, place, none_fits, without, closed}
 use Rattle.rules.specs.Tables.{length_of, queue_of, with_queue, with_store}
-use Rattle.rules.proofs.Bools.{same_test}
+use Rattle.rules.proofs.Bools.{and_right, same_test}
 use Rattle.rules.proofs.Queues.{Sound, queue_length, queue_criteria, element_at, criterion_at, taken_stored}
 use Rattle.queues.specs.Gaps.{closed_in}
-use Rattle.queues.specs.Places.{place_in}
+use Rattle.queues.specs.Places.{place_in, unless_end}
 
 leb_add : (a m n : ℕ) → leb m n ≡ leb (a + m) (a + n)
 leb_add a m n =
@@ -25,6 +21,25 @@ leb_add a m n =
 pub closed_is : (at end : ℕ) (l : List ℕ) → at < end → end ≤ store_size → closed_in at end l ≡ closed at end l
 unfolding closed_in
 closed_is at end l h k = rw (lt-ltb at end h, le-leb end store_size k)
+
+-- a place that is found lies in the part, and the part in the store
+pub place_known : (from to c : ℕ) (l : List ℕ) {p : ℕ} → Some p ≡ unless_end to (place_in from to c l)
+    → (p ≡ place_in from to c l) × ((p < to) × (to ≤ store_size))
+unfolding place_in
+place_known from to c l {p} = go (leb from to && leb to store_size) refl
+  where
+    at : ℕ
+    at = from + before (wanted c (slice from to l)) (slice from to l)
+
+    go : (b : Bool) → (leb from to && leb to store_size) ≡ b → Some p ≡ unless_end to (cond b at to)
+        → (p ≡ cond b at to) × ((p < to) × (to ≤ store_size))
+    go true b e =
+        let it = some_by (ltb at to) at e in
+        (it.1, (omega (arith, ltb-true at to it.0, it.1), leb-true to store_size (and_right (leb from to) (leb to store_size) b)))
+    go false b e = absurd (let none : Some p ≡ None = rw (le-ltb to to (omega arith)) at e in cc)
+
+pub place_within : (from to c : ℕ) (l : List ℕ) {p : ℕ} → Some p ≡ unless_end to (place_in from to c l) → p < store_size
+place_within from to c l e = let it = place_known from to c l e in omega arith
 
 -- ---- RETRIEVE with criterion k from queue q of a table, as the code does it
 

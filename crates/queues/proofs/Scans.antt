@@ -1,17 +1,11 @@
--- Laws of scans of the store without a branch: the joined bits of a part, the stretches that cover what lies behind a queue, and a turn and the end
--- of a scan for zeros and for criteria in range. They speak of the list of entries, whatever their width.
-use Prim.Native.Nat.{ℕ, zero, suc, ◌+◌, ◌*◌, ◌^◌, ◌<◌, ◌≤◌, max}
-use mathlib.Core.Path.{◌≡◌, refl, ap, ap₂, ◌∙◌}
-use mathlib.Core.Bool.{Bool, true, false, ◌&&◌, and_assoc, and-true}
-use mathlib.Core.List.{List, [], ◌∷◌}
-use native.Mathlib.Numerals.{add-one}
-use native.Mathlib.Omega.{arith}
-use lib.Bits.{bit_or, or_add_and, and_le_l, and_le_r, or_lt}
-use lib.Dec.{ltb}
-use lib.ListN.{length, take, get_or, drop_of_length-le, length-take}
-use lib.Seq.{slice, slice-cons, take_all}
-use borrow.Author.Tests.{eqb-true, eq-eqb, ltb-true, lt-ltb}
-use Rattle.rules.specs.Numbers.{store_size}
+-- Laws of scans of the store without a branch: joined bits, the stretches that cover what lies behind a queue, and the scans for zeros and for
+-- criteria in range, which are folds. They speak of the list of entries, whatever their width.
+use Rattle.std.proofs.Common.{ℕ, zero, suc, ◌+◌, ◌*◌, ◌^◌, ◌<◌, ◌≤◌, ◌-◌, max, min, ◌≡◌, refl, sym, ap, ap₂, ◌∙◌, Bool, true, false, ◌&&◌, List, [], ◌∷◌, arith, bit_or, ltb, leb, length, take, drop_of_length-le, length-take, eqb-true, eq-eqb, ltb-true, lt-ltb, leb-true, leb-false}
+use mathlib.Core.Bool.{and_assoc, and-true}
+use lib.Bits.{or_add_and, and_le_l, and_le_r, or_lt}
+use lib.Seq.{slice}
+use Rattle.std.specs.List.{fold, slice_range}
+use Rattle.rules.proofs.Store.{slice_is}
 use Rattle.rules.specs.Words.{is_zero, every}
 use Rattle.rules.specs.Validity.{criterion_in_range, criteria_in_range}
 use Rattle.rules.proofs.Bools.{and_left, and_right, and_swap, both, same_test}
@@ -45,10 +39,6 @@ or_below k a b =
     let x = ltb-true a m (and_left (ltb a m) (ltb b m) h) in
     let y = ltb-true b m (and_right (ltb a m) (ltb b m) h) in
     lt-ltb (bit_or a b) m (or_lt k a b x y))
-
--- nothing is left of a part from its end on
-pub nothing_left {ℓ} : {A : Type ℓ} (i to : ℕ) (l : List A) → to ≤ i → slice i to l ≡ []
-nothing_left i to l h = let short : length (take to l) ≤ i = rw length-take (omega arith) in drop_of_length-le (take to l) short
 
 -- ---- two parts that meet or overlap
 
@@ -103,36 +93,42 @@ module _ (es cs : List ℕ) (k start first second third : ℕ) {a b c d : Bool} 
       )
       refl
 
--- ---- a scan
+-- ---- a scan: a test that joined bits pass where all do
 
--- a test that joined bits pass where all do: the bits so far, and what is still to be read
-module _ (p : ℕ → Bool) (joins : (a b : ℕ) → p (bit_or a b) ≡ (p a && p b)) (i to bits : ℕ) (l : List ℕ) {z : Bool} where
-  pub bits_again : (p bits && every p (slice i to l)) ≡ z → to ≤ length l → i < to
-      → (p (bit_or bits (get_or l i 0)) && every p (slice (i + 1) to l)) ≡ z
+module _ (p : ℕ → Bool) (joins : (a b : ℕ) → p (bit_or a b) ≡ (p a && p b)) where
+  joined : (a : ℕ) (l : List ℕ) → p (fold bit_or a l) ≡ (p a && every p l)
   unfolding every
-  bits_again k h g = rw (add-one, joins, and_assoc) (rw (slice-cons i to l 0) at k)
+  joined a [] = sym (and-true (p a))
+  joined a (x ∷ xs) = joined (bit_or a x) xs ∙ ap (λ b. b && every p xs) (joins a x) ∙ and_assoc (p a) (p x) (every p xs)
 
-  pub bits_end : (p bits && every p (slice i to l)) ≡ z → to ≤ i → p bits ≡ z
-  unfolding every
-  bits_end k h = rw (nothing_left i to l, and-true) at k
+-- a part whose bits are 0
+part_joined : (l : List ℕ) (from to : ℕ) → from ≤ to → is_zero (fold bit_or 0 (slice_range l from to)) ≡ every is_zero (slice from to l)
+part_joined l from to h =
+    let part : slice_range l from to ≡ slice from to l = sym (ap (λ k. slice from k l) (omega arith) ∙ slice_is from (to - from) l) in
+    joined is_zero or_zero 0 (slice_range l from to) ∙ ap (every is_zero) part
 
-module _ (i to bits : ℕ) (l : List ℕ) {z : Bool} where
-  pub zero_again : (is_zero bits && every is_zero (slice i to l)) ≡ z → to ≤ length l → i < to
-      → (is_zero (bit_or bits (get_or l i 0)) && every is_zero (slice (i + 1) to l)) ≡ z
-  zero_again = bits_again is_zero or_zero i to bits l
-
-  pub zero_end : (is_zero bits && every is_zero (slice i to l)) ≡ z → to ≤ i → is_zero bits ≡ z
-  zero_end = bits_end is_zero or_zero i to bits l
+pub both_zero : (es cs : List ℕ) (from to e c : ℕ) → from ≤ to → e ≡ fold bit_or 0 (slice_range es from to) → c ≡ fold bit_or 0 (slice_range cs from to)
+    → (is_zero e && is_zero c) ≡ zero_part es cs from to
+unfolding zero_part
+both_zero es cs from to e c h x y = rw (x, y, part_joined es from to h, part_joined cs from to h) refl
 
 -- the end of the criteria is 2 ^ 4
-module _ (i to bits : ℕ) (l : List ℕ) {z : Bool} where
-  pub range_again : (criterion_in_range bits && every criterion_in_range (slice i to l)) ≡ z → to ≤ length l → i < to
-      → (criterion_in_range (bit_or bits (get_or l i 0)) && every criterion_in_range (slice (i + 1) to l)) ≡ z
-  range_again = bits_again criterion_in_range (or_below 4) i to bits l
-
-  pub range_end : (criterion_in_range bits && every criterion_in_range (slice i to l)) ≡ z → to ≤ i → criterion_in_range bits ≡ z
-  range_end = bits_end criterion_in_range (or_below 4) i to bits l
-
-pub range_start : (l : List ℕ) → length l ≡ store_size → every criterion_in_range (slice 0 store_size l) ≡ criteria_in_range l
+pub criteria_joined : (l : List ℕ) (bits : ℕ) → bits ≡ fold bit_or 0 l → ltb bits 16 ≡ criteria_in_range l
 unfolding criteria_in_range
-range_start l h = rw (take_all store_size l (omega arith))
+criteria_joined l bits e = rw e (joined criterion_in_range (or_below 4) 0 l)
+
+-- a part past its end has nothing in it, wherever it begins
+pub past_end : (es cs : List ℕ) (from to : ℕ) → zero_part es cs (min from to) to ≡ zero_part es cs from to
+unfolding zero_part
+past_end es cs from to = ap₂ (λ a b. every is_zero a && every is_zero b) (part es) (part cs)
+  where
+    nothing : (i : ℕ) (l : List ℕ) → to ≤ i → slice i to l ≡ []
+    nothing i l h = let short : length (take to l) ≤ i = rw length-take (omega arith) in drop_of_length-le (take to l) short
+
+    part : (l : List ℕ) → slice (min from to) to l ≡ slice from to l
+    part l = go (leb from to) refl
+      where
+        go : (b : Bool) → leb from to ≡ b → slice (min from to) to l ≡ slice from to l
+        go true h = ap (λ n. slice n to l) (omega (arith, leb-true from to h))
+        go false h =
+            let past : to < from = leb-false from to h in nothing (min from to) l (omega arith) ∙ sym (nothing from l (omega arith))

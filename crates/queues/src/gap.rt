@@ -1,34 +1,21 @@
-// The gap closed that RETRIEVE leaves in the flat store, for elements and for criteria.
-ghost use Rattle.std.specs.Prelude.{◌≡◌, length};
-ghost use Rattle.rules.specs.Numbers.{store_size};
+// The gap closed that RETRIEVE leaves in the store.
+ghost use Rattle.std.specs.Prelude.{◌≡◌};
 ghost use Rattle.queues.specs.Gaps.{closed_in};
 
 use rules::STORE;
+use tables::Store;
 
 // Closes the gap at `at`: what stands behind it up to `end` moves one down, and the last place gets 0.
-pub fn close_elements(element: &mut [u32; STORE], at: usize, end: usize)
-    requires { length element.old ≡ store_size }
-    ensures { element.new ≡ closed_in at end element.old }
+#[tactic(auto, using(crate::proofs::Gaps::gap_closed), unfolding(crate::specs::Gaps::closed_in))]
+pub fn close_gap(store: &mut Store, at: usize, end: usize)
+    ensures elements { store.new.element ≡ closed_in at end store.old.element }
+    ensures criteria { store.new.criterion ≡ closed_in at end store.old.criterion }
 {
-    if (at < end) & (end <= STORE) {
+    if at < end && end <= STORE {
         let last = end - 1;
-        for i in at..last {
-            element[i] = element[i + 1];
-        }
-        element[last] = 0;
-    }
-}
-
-// The same for criteria.
-pub fn close_criteria(criterion: &mut [u8; STORE], at: usize, end: usize)
-    requires { length criterion.old ≡ store_size }
-    ensures { criterion.new ≡ closed_in at end criterion.old }
-{
-    if (at < end) & (end <= STORE) {
-        let last = end - 1;
-        for i in at..last {
-            criterion[i] = criterion[i + 1];
-        }
-        criterion[last] = 0;
+        store.element.copy_within(at + 1..end, at);
+        store.element[last] = 0;
+        store.criterion.copy_within(at + 1..end, at);
+        store.criterion[last] = 0;
     }
 }

@@ -7,5 +7,5 @@ mod gap;
 mod place;
 
 pub use check::{criteria_right, queues_right};
-pub use gap::{close_criteria, close_elements};
+pub use gap::close_gap;
 pub use place::place_of;

@@ -1,69 +1,40 @@
 // What RETRIEVE takes: the place of its element in the flat store.
-ghost use Rattle.std.specs.Prelude.{◌+◌, ◌≤◌, max, ◌≡◌, length};
-ghost use Rattle.std.proofs.Math.Seq.{slice};
-ghost use Rattle.rules.specs.Numbers.{store_size};
-ghost use Rattle.rules.specs.Queues.{largest, wanted, before};
-ghost use Rattle.queues.specs.Places.{place_in};
+ghost use Rattle.std.specs.Prelude.{◌≡◌, eqb, position};
+ghost use Rattle.rules.specs.Queues.{largest, wanted};
+ghost use Rattle.queues.specs.Places.{place_in, unless_end};
 
 use rules::{LARGEST_PRESENT, STORE};
 
-fn greater(x: u8, y: u8) -> u8
-    ensures { result ≡ max x y }
+fn largest_of(criteria: &[u8]) -> u8
+    ensures { result ≡ largest criteria.now }
 {
-    if x < y { y } else { x }
-}
-
-fn largest_of(criterion: &[u8; STORE], from: usize, to: usize) -> u8
-    requires { (length criterion.now ≡ store_size) × (to ≤ store_size) }
-    ensures { result ≡ largest (slice from to criterion.now) }
-{
-    let mut most: u8 = 0;
-    for i in from..to {
-        most = greater(most, criterion[i]);
-    }
-    most
+    criteria.iter().fold(0, |most, &x| most.max(x))
 }
 
 // The criterion to look for.
-fn wanted_of(criterion: &[u8; STORE], from: usize, to: usize, c: u32) -> u32
-    requires { (length criterion.now ≡ store_size) × (to ≤ store_size) }
-    ensures { result ≡ wanted c (slice from to criterion.now) }
+fn wanted_of(criteria: &[u8], c: u32) -> u32
+    ensures { result ≡ wanted c criteria.now }
 {
     if c == LARGEST_PRESENT {
-        largest_of(criterion, from, to) as u32
+        u32::from(largest_of(criteria))
     } else {
         c
     }
 }
 
-// A stored criterion as wide as a call's: a call's number is never narrowed, since 256 is not 0.
-fn wide(x: u8) -> u32
-    ensures { result ≡ x }
+// The first of criterion c. A stored criterion is made as wide as a call's: a call's number is never narrowed, since 256 is not 0.
+fn oldest_of(criteria: &[u8], c: u32) -> Option<usize>
+    ensures { result ≡ position (λ x. eqb x c) criteria.now }
 {
-    x as u32
+    criteria.iter().position(|&x| u32::from(x) == c)
 }
 
-// The place of the oldest of criterion c, and `to` where there is none.
-fn oldest_of(criterion: &[u8; STORE], from: usize, to: usize, c: u32) -> usize
-    requires { (length criterion.now ≡ store_size) × (from ≤ to) × (to ≤ store_size) }
-    ensures { result ≡ from + before c (slice from to criterion.now) }
+// The place of the oldest element that RETRIEVE with criterion c takes among those at from..to, if one fits.
+pub fn place_of(criterion: &[u8; STORE], from: usize, to: usize, c: u32) -> Option<usize>
+    ensures { result ≡ unless_end to (place_in from to c criterion.now) }
 {
-    for i in from..to {
-        if wide(criterion[i]) == c {
-            return i;
-        }
-    }
-    to
-}
-
-// The place of the oldest element that RETRIEVE with criterion c takes among those at from..to, and `to` where none fits.
-pub fn place_of(criterion: &[u8; STORE], from: usize, to: usize, c: u32) -> usize
-    requires { length criterion.now ≡ store_size }
-    ensures { result ≡ place_in from to c criterion.now }
-{
-    if from <= to && to <= STORE {
-        let wanted = wanted_of(criterion, from, to, c);
-        return oldest_of(criterion, from, to, wanted);
-    }
-    to
+    let criteria = criterion.get(from..to)?;
+    let wanted = wanted_of(criteria, c);
+    let i = oldest_of(criteria, wanted)?;
+    Some(from + i)
 }

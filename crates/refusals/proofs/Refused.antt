@@ -1,26 +1,21 @@
 -- The refusals as the code finds them: first those before a call's numbers are looked at, then, of a valid table, those that the call's kind can
 -- meet.
-use Prim.Native.Nat.{ℕ, ◌<◌, ◌≤◌}
-use mathlib.Core.Path.{◌≡◌, refl, sym, ◌∙◌}
-use mathlib.Core.Logic.{◌≢◌}
-use mathlib.Core.Bool.{Bool, true, false, cond, not, ◌&&◌}
-use mathlib.Core.List.{List, [], ◌∷◌}
-use native.Mathlib.Omega.{arith}
-use lib.Dec.{eqb, ltb, leb}
-use lib.ListN.{length, get_or-eq_default}
-use borrow.Author.Tests.{eqb-true, eqb-false, ne_eqb, ltb-true, ltb-false, leb-true, lt-ltb, not-false}
+use Rattle.std.proofs.Common.{ℕ, ◌<◌, ◌≤◌, ◌≡◌, ◌≢◌, refl, sym, ◌∙◌, Bool, true, false, cond, not, ◌&&◌, List, [], ◌∷◌, length, arith, eqb, ltb, leb, leb-true}
+use Rattle.std.proofs.lemmas.Grind.{common_steps}
+use lib.ListN.{get_or-eq_default}
 use Rattle.rules.specs.declared.Timer.{Timer}
 use Rattle.rules.specs.declared.Table.{Table}
 use Rattle.rules.specs.declared.Call.{Call}
-use Rattle.rules.specs.Numbers.{queue_room, WAIT, ENTER, EXIT, SEND, RETRIEVE, ARM, DISARM, TICK}
+use Rattle.rules.specs.declared.Refusal.{Refusal}
+use Rattle.rules.specs.Statuses.{number_of}
+use Rattle.rules.specs.Numbers.{queue_room, WAIT, ENTER, EXIT, SEND, RETRIEVE, ARM, TICK}
 use Rattle.rules.specs.Words.{is_zero, every, Reason, when, first}
 use Rattle.rules.specs.Regions.{held_by}
 use Rattle.rules.specs.Queues.{none_fits}
-use Rattle.rules.specs.Tables.{region_of, bound_of, length_of, queue_of}
+use Rattle.rules.specs.Tables.{region_of, bound_of, queue_of}
 use Rattle.rules.specs.Validity.{valid, counts_in_range}
 use Rattle.rules.specs.Refusals.{missing, bad_operator, others_at, wrong_state, leaves, inside, entries_full, closes_circle, stops_holder, reasons, refusal}
-use Rattle.rules.proofs.Bools.{given, or_left}
-use Rattle.rules.proofs.Effects.{upto}
+use Rattle.rules.proofs.Bools.{given}
 use Rattle.rules.proofs.Queues.{queue_length}
 use Rattle.rules.proofs.Rules.{Parts}
 use Rattle.rules.proofs.ValidQueues.{sound}
@@ -37,51 +32,34 @@ use Rattle.refusals.specs.Assuming.{early_reasons}
 -- before ARM, 15 is about tasks
 wrong_below : (states : List ℕ) (timers : List Timer) (c : Call) → c.operation < ARM → wrong_state states timers c ≡ wrong_task states c
 unfolding wrong_state wrong_task
-wrong_below states timers c h =
-    upto ARM (λ n. c.operation ≡ n → wrong_state states timers c ≡ wrong_task states c) (
-      λ e. rw e refl,
-      (λ e. rw e refl, (λ e. rw e refl, (λ e. rw e refl, (λ e. rw e refl, (λ e. rw e refl, (λ e. rw e refl, (λ e. rw e refl, (λ e. rw e refl, (λ e. rw e refl, tt))))))))),
-    )
-    c.operation h refl
+wrong_below states timers c h = grind (arith, common_steps)
 
 -- from ARM on, about timers
 wrong_timer : (states : List ℕ) (timers : List Timer) (c : Call) → ARM ≤ c.operation
     → wrong_state states timers c ≡ (ltb c.operation TICK && others_at timers c.caller c.a)
 unfolding wrong_state
-wrong_timer states timers c h = go (ltb c.operation TICK) (eqb c.operation ARM) refl refl
-  where
-    go : (b d : Bool) → ltb c.operation TICK ≡ b → eqb c.operation ARM ≡ d
-        → wrong_state states timers c ≡ (ltb c.operation TICK && others_at timers c.caller c.a)
-    go true true e f = rw (eqb-true c.operation ARM f) refl
-    go true false e f =
-        let least = eqb-false c.operation ARM f in
-        let most = ltb-true c.operation TICK e in
-        let last : c.operation ≡ DISARM = omega arith in
-        rw last refl
-    go false d e f = let past = ltb-false c.operation TICK e in rw (e, get_or-eq_default)
+wrong_timer states timers c h = grind (arith, common_steps, get_or-eq_default)
 
 wrong_queue : (states : List ℕ) (timers : List Timer) (c : Call) → EXIT < c.operation → c.operation < ARM → wrong_state states timers c ≡ false
-unfolding wrong_task
-wrong_queue states timers c l h =
-    wrong_below states timers c h ∙ (let past : 4 ≤ c.operation = omega arith in rw get_or-eq_default)
+unfolding wrong_state
+wrong_queue states timers c l h = grind (arith, common_steps, get_or-eq_default)
 
 -- behind EXIT nobody is held off by a region: 16, 24, 25
 leaves_past : (c : Call) → EXIT < c.operation → leaves c ≡ false
 unfolding leaves
-leaves_past c h = let past : 5 ≤ c.operation = omega arith in rw get_or-eq_default
+leaves_past c h = grind (arith, common_steps, get_or-eq_default)
 
 inside_past : (opened holders : List ℕ) (c : Call) → EXIT < c.operation → inside opened holders c ≡ false
 unfolding inside
-inside_past opened holders c h =
-    rw (leaves_past c h, ne_eqb c.operation ENTER (omega arith), ne_eqb c.operation WAIT (omega arith)) refl
+inside_past opened holders c h = grind (arith, common_steps, leaves_past)
 
 circle_past : (awaits holders : List ℕ) (c : Call) → EXIT < c.operation → closes_circle awaits holders c ≡ false
 unfolding closes_circle
-circle_past awaits holders c h = rw (ne_eqb c.operation ENTER (omega arith)) refl
+circle_past awaits holders c h = grind (arith, common_steps)
 
 stops_past : (opened holders : List ℕ) (c : Call) → EXIT < c.operation → stops_holder opened holders c ≡ false
 unfolding stops_holder
-stops_past opened holders c h = let past : 3 ≤ c.operation = omega arith in rw get_or-eq_default
+stops_past opened holders c h = grind (arith, common_steps, get_or-eq_default)
 
 -- ---- 17 and 18 by places of the store, of a queue that exists
 
@@ -96,32 +74,20 @@ module _ (t : Table) (v : valid t ≡ true) (c : Call) where
   -- SEND and RETRIEVE that miss nothing name a queue
   pub send_there : missing t.tasks t.regions t.queues c ≡ false → c.operation ≡ SEND → c.a < t.queues
   unfolding missing
-  send_there m e = ltb-true c.a t.queues (not-false _ (or_left _ _ (rw e at m)))
+  send_there m e = grind (arith, common_steps)
 
   pub retrieve_there : missing t.tasks t.regions t.queues c ≡ false → c.operation ≡ RETRIEVE → c.a < t.queues
   unfolding missing
-  retrieve_there m e = ltb-true c.a t.queues (not-false _ (or_left _ _ (rw e at m)))
+  retrieve_there m e = grind (arith, common_steps)
 
   full_same : missing t.tasks t.regions t.queues c ≡ false
       → full t.bound t.length c ≡ (eqb c.operation SEND && leb (bound_of t c.a) (length (queue_of t c.a)))
-  full_same m = go (eqb c.operation SEND) refl
-    where
-      go : (b : Bool) → eqb c.operation SEND ≡ b
-          → (b && leb (bound_of t c.a) (length_of t c.a)) ≡ (b && leb (bound_of t c.a) (length (queue_of t c.a)))
-      go true e = rw (queue_length t c.a (sound t parts c.a (room (send_there m (eqb-true c.operation SEND e)))))
-      go false e = refl
+  full_same m = grind (arith, common_steps, room, send_there, queue_length, sound t parts)
 
   lacking_same : missing t.tasks t.regions t.queues c ≡ false
       → lacking t.length t.criterion c ≡ (eqb c.operation RETRIEVE && none_fits c.c (queue_of t c.a))
   unfolding lacking
-  lacking_same m = go (eqb c.operation RETRIEVE) refl
-    where
-      go : (b : Bool) → eqb c.operation RETRIEVE ≡ b
-          → lacking t.length t.criterion c ≡ (eqb c.operation RETRIEVE && none_fits c.c (queue_of t c.a))
-      go true e =
-          let h = retrieve_there m (eqb-true c.operation RETRIEVE e) in
-          rw (e, lt-ltb c.a queue_room (room h), none_is t c.a (sound t parts c.a (room h)) (room h) c.c)
-      go false e = rw e
+  lacking_same m = grind (arith, common_steps, room, retrieve_there, none_is, sound t parts)
 
 -- ---- the whole list
 
@@ -147,12 +113,15 @@ refusal_is t c known is early e = first_append (early_reasons (valid t) t.electe
 
 -- no early reason: the table is valid
 pub valid_then : (known : Bool) (elected : ℕ) (c : Call) → first (early_reasons known elected c) ≡ 0 → known ≡ true
-valid_then true elected c h = refl
-valid_then false elected c h = let z : ◌≡◌ {A = ℕ} 10 0 = h in absurd (omega arith)
+valid_then known elected c h = grind (arith, common_steps)
 
 pub refused_early : (t : Table) (c : Call) (known : Bool) → known ≡ valid t → (early : ℕ) → early ≡ first (early_reasons known t.elected c) → early ≢ 0
     → early ≡ refusal t c
-refused_early t c known is early e n = sym (refusal_is t c known is early e ∙ rw (ne_eqb early 0 n) refl)
+refused_early t c known is early e n = grind (arith, common_steps, refusal_is)
+
+-- no reason has the number 0
+pub number_past : (r : Refusal) → number_of r ≢ 0
+number_past r e = grind (arith, number_of)
 
 -- 14 of a call on a front
 abbrev pub missing_in : Front → Call → Bool
@@ -168,53 +137,17 @@ module _ (f : Front) (cs : List ℕ) (c : Call) (es : List ℕ) (v : valid (whol
 
   pub refused_missing : missing_in f c ≡ true → 14 ≡ refusal t c
   unfolding late
-  refused_missing m = rw (late_is, m) refl
+  refused_missing m = grind (arith, common_steps, late_is)
 
   module _ (m : missing_in f c ≡ false) {r : ℕ} where
     pub refused_timer : RETRIEVE < c.operation → r ≡ first (timer_reasons f.timers c) → r ≡ refusal t c
     unfolding late
-    refused_timer h p =
-        rw (
-          late_is,
-          m,
-          ne_eqb c.operation WAIT (omega arith),
-          wrong_timer f.state f.timers c h,
-          inside_past f.opened f.holder c (omega arith),
-          ne_eqb c.operation SEND (omega arith),
-          ne_eqb c.operation RETRIEVE (omega arith),
-          ne_eqb c.operation ENTER (omega arith),
-          ne_eqb c.operation EXIT (omega arith),
-          circle_past f.awaits f.holder c (omega arith),
-          stops_past f.opened f.holder c (omega arith),
-        )
-        p
+    refused_timer h p = grind (arith, common_steps, late_is, wrong_timer, inside_past, circle_past, stops_past)
 
     pub refused_queue : EXIT < c.operation → c.operation ≤ RETRIEVE → r ≡ first (queue_reasons f cs c) → r ≡ refusal t c
     unfolding late
-    refused_queue l h p =
-        rw (
-          late_is,
-          m,
-          ne_eqb c.operation WAIT (omega arith),
-          wrong_queue f.state f.timers c l (omega arith),
-          inside_past f.opened f.holder c l,
-          ← full_same t v c m,
-          ← lacking_same t v c m,
-          ne_eqb c.operation ENTER (omega arith),
-          ne_eqb c.operation EXIT (omega arith),
-          circle_past f.awaits f.holder c l,
-          stops_past f.opened f.holder c l,
-        )
-        p
+    refused_queue l h p = grind (arith, common_steps, late_is, wrong_queue, inside_past, circle_past, stops_past, full_same t v c m, lacking_same t v c m)
 
     pub refused_task : c.operation ≤ EXIT → r ≡ first (task_reasons f c) → r ≡ refusal t c
     unfolding late
-    refused_task h p =
-        rw (
-          late_is,
-          m,
-          wrong_below f.state f.timers c (omega arith),
-          ne_eqb c.operation SEND (omega arith),
-          ne_eqb c.operation RETRIEVE (omega arith),
-        )
-        p
+    refused_task h p = grind (arith, common_steps, late_is, wrong_below)

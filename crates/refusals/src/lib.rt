@@ -2,14 +2,14 @@
 #![tactic(auto)]
 
 mod early;
-mod first_reason;
 mod numbers;
 mod order;
 mod queue_reasons;
+mod reason;
 mod region_reasons;
 mod reported;
 mod task_reasons;
 
-pub use first_reason::pick;
 pub use order::refusal_of;
-pub use reported::reported_by;
+pub use reason::refuse;
+pub use reported::{refused_by, reported_by};

@@ -1,40 +1,42 @@
 // What a call's own numbers tell: that one of them stands for nothing, or that the caller would stop running.
 ghost use Rattle.std.specs.Prelude.{◌≡◌};
+ghost use Rattle.rules.specs.Commands.{its_call};
 ghost use Rattle.rules.specs.Refusals.{missing, leaves};
 
-use rules::{
-    ARM, CLEAR, CRITERIA, Call, DISARM, END, ENTER, EVENTS, EXIT, LARGEST_PRESENT, LONGEST_DELAY,
-    RETRIEVE, SEND, SIGNAL, START, STOP, TICK, TIMERS, WAIT,
-};
+use rules::{CRITERIA, Command, EVENTS, LARGEST_PRESENT, LONGEST_DELAY, Operation, TIMERS};
+use tables::Front;
 
 // 14: a number of the call that stands for nothing. The numbers are compared as they come, 32 bits wide.
-pub(crate) fn missing_of(tasks: u8, regions: u8, queues: u8, k: Call) -> bool
-    ensures { result ≡ missing tasks regions queues k }
+#[tactic(auto, unfolding(rules::specs::Refusals::missing))]
+pub(crate) fn missing_of(f: &Front, k: Command) -> bool
+    ensures { result ≡ missing f.now.tasks f.now.regions f.now.queues (its_call k) }
 {
-    let a = k.a;
-    let operation = k.operation;
-    match operation {
-        START => !(a < (tasks as u32)),
-        STOP => !(a < (tasks as u32)),
-        END => false,
-        SIGNAL => !(a < EVENTS) | !(k.b < (tasks as u32)),
-        WAIT => (a == 0) | (65535 < a),
-        CLEAR => (a == 0) | (65535 < a),
-        ENTER => !(a < (regions as u32)),
-        EXIT => !(a < (regions as u32)),
-        SEND => !(a < (queues as u32)) | !(k.c < CRITERIA),
-        RETRIEVE => !(a < (queues as u32)) | (LARGEST_PRESENT < k.c),
-        ARM => !(a < (TIMERS as u32)) | (!(k.b < EVENTS) | ((k.c == 0) | (LONGEST_DELAY < k.c))),
-        DISARM => !(a < (TIMERS as u32)),
-        TICK => false,
+    let tasks = u32::from(f.tasks);
+    let regions = u32::from(f.regions);
+    let queues = u32::from(f.queues);
+    match k.operation {
+        Operation::Start | Operation::Stop => k.a >= tasks,
+        Operation::Signal => k.a >= EVENTS || k.b >= tasks,
+        Operation::Wait | Operation::Clear => !(1..=65535).contains(&k.a),
+        Operation::Enter | Operation::Exit => k.a >= regions,
+        Operation::Send => k.a >= queues || k.c >= CRITERIA,
+        Operation::Retrieve => k.a >= queues || k.c > LARGEST_PRESENT,
+        Operation::Arm => k.a >= TIMERS as u32
+            || k.b >= EVENTS
+            || !(1..=LONGEST_DELAY).contains(&k.c),
+        Operation::Disarm => k.a >= TIMERS as u32,
         _ => false,
     }
 }
 
 // 16, but for the regions: the calls by which the caller would stop running.
-pub(crate) fn leaves_of(k: Call) -> bool
-    ensures { result ≡ leaves k }
+#[tactic(auto, unfolding(rules::specs::Refusals::leaves))]
+pub(crate) fn leaves_of(k: Command) -> bool
+    ensures { result ≡ leaves (its_call k) }
 {
-    let operation = k.operation;
-    ((operation == STOP) & (k.a == (k.caller as u32))) | ((operation == END) | (operation == WAIT))
+    match k.operation {
+        Operation::Stop => k.a == u32::from(k.caller),
+        Operation::End | Operation::Wait => true,
+        _ => false,
+    }
 }

@@ -1,45 +1,40 @@
 // Why SEND and RETRIEVE are refused, once their numbers stand for something: the first reason that applies.
-ghost use Rattle.std.specs.Prelude.{◌≡◌, length};
-ghost use Rattle.rules.specs.Numbers.{queue_room, store_size};
+ghost use Rattle.std.specs.Prelude.{◌≡◌};
+ghost use Rattle.rules.specs.Statuses.{status_of};
+ghost use Rattle.rules.specs.Commands.{its_call};
 ghost use Rattle.rules.specs.Words.{first};
 ghost use Rattle.refusals.specs.ByKind.{full, lacking, queue_reasons};
 
-use crate::first_reason::pick;
+use crate::reason::refuse;
 use queues::place_of;
-use rules::{Call, PLACES, QUEUES, RETRIEVE, SEND, STORE};
-use tables::{Front, byte_at};
+use rules::{Command, Operation, PLACES, QUEUES, Refusal};
+use tables::{Front, Store, byte_at};
 
 // 17: SEND to a queue at its bound.
-fn full_of<'a>(bound: &'a [u8; QUEUES], lengths: &'a [u8; QUEUES], k: Call) -> bool
-    requires bound_len { length bound.now ≡ queue_room }
-    requires lengths_len { length lengths.now ≡ queue_room }
-    ensures { result ≡ full bound.now lengths.now k }
+fn full_of(f: &Front, k: Command) -> bool
+    ensures { result ≡ full f.now.bound f.now.length (its_call k) }
 {
-    let most = byte_at(bound, k.a as usize);
-    let n = byte_at(lengths, k.a as usize);
-    (k.operation == SEND) & (most <= n)
+    k.operation == Operation::Send
+        && byte_at(&f.length, k.a as usize) >= byte_at(&f.bound, k.a as usize)
 }
 
 // 18: RETRIEVE where no element fits.
-fn lacking_of<'a>(lengths: &'a [u8; QUEUES], criterion: &'a [u8; STORE], k: Call) -> bool
-    requires lengths_len { length lengths.now ≡ queue_room }
-    requires criterion_len { length criterion.now ≡ store_size }
-    ensures { result ≡ lacking lengths.now criterion.now k }
+#[tactic(auto, unfolding(crate::specs::ByKind::lacking))]
+fn lacking_of(f: &Front, store: &Store, k: Command) -> bool
+    ensures { result ≡ lacking f.now.length store.now.criterion (its_call k) }
 {
-    if (k.operation == RETRIEVE) & (k.a < (QUEUES as u32)) {
+    if k.operation == Operation::Retrieve && k.a < QUEUES as u32 {
         let from = (k.a as usize) * PLACES;
-        let to = from + (byte_at(lengths, k.a as usize) as usize);
-        let at = place_of(criterion, from, to, k.c);
-        return to <= at;
+        let to = from + (byte_at(&f.length, k.a as usize) as usize);
+        return place_of(&store.criterion, from, to, k.c).is_none();
     }
     false
 }
 
 // 17 and 18: what is left to ask of SEND and RETRIEVE.
-pub(crate) fn queue_reason_of(f: Front, criterion: &[u8; STORE], k: Call) -> u8
-    requires { length criterion.now ≡ store_size }
-    ensures { result ≡ first (queue_reasons f criterion.now k) }
+pub(crate) fn queue_reason_of(f: &Front, store: &Store, k: Command) -> Result<(), Refusal>
+    ensures { status_of result ≡ first (queue_reasons f.now store.now.criterion (its_call k)) }
 {
-    let r18 = pick(lacking_of(&f.length, criterion, k), 18, 0);
-    pick(full_of(&f.bound, &f.length, k), 17, r18)
+    refuse(full_of(f, k), Refusal::QueueFull)?;
+    refuse(lacking_of(f, store, k), Refusal::NoneFits)
 }

@@ -1,6 +1,8 @@
 // Why a call is refused for the regions that somebody holds: 16, 22, 23, 24 and 25, one test each.
-ghost use Rattle.std.specs.Prelude.{◌≡◌, ◌&&◌, ◌||◌, eqb, length};
-ghost use Rattle.rules.specs.Numbers.{task_room, region_room, WAIT};
+ghost use Rattle.std.specs.Prelude.{◌≡◌, ◌&&◌, ◌||◌, eqb, get_or};
+ghost use Rattle.rules.specs.Numbers.{WAIT};
+ghost use Rattle.rules.specs.Commands.{its_call, operation_number};
+ghost use Rattle.rules.specs.Words.{names};
 ghost use Rattle.rules.specs.Regions.{occupied};
 ghost use Rattle.rules.specs.Urgency.{closed_holders, holds_open};
 ghost use Rattle.rules.specs.Refusals.{leaves, suspends, inside, closes_circle, stops_holder};
@@ -8,106 +10,82 @@ ghost use Rattle.refusals.specs.ByKind.{deepest, not_held};
 
 use crate::numbers::leaves_of;
 use regions::{closed_held, holds_open};
-use rules::{Call, END, ENTER, EXIT, REGIONS, STOP, TASKS, WAIT};
-use tables::byte_at;
+use rules::{Command, Operation};
+use tables::{Front, byte_at};
 use urgency::meets_of;
 
-// An ENTER of a region that another task holds. Its entry is compared with the caller's, 32 bits wide since 255 has none.
-fn suspends_of(holder: &[u8; REGIONS], k: Call) -> bool
-    requires { length holder.now ≡ region_room }
-    ensures { result ≡ suspends holder.now k }
+// Whether the caller holds the region. Its entry is compared 32 bits wide, since 255 has none.
+fn names_caller(f: &Front, k: Command) -> bool
+    ensures { result ≡ names (get_or f.now.holder k.a 0) k.caller }
 {
-    let h = byte_at(holder, k.a as usize);
-    (k.operation == ENTER) & (!(h == 0) & !((h as u32) == (k.caller as u32) + 1))
+    u32::from(byte_at(&f.holder, k.a as usize)) == u32::from(k.caller) + 1
+}
+
+// An ENTER of a region that another task holds.
+fn suspends_of(f: &Front, k: Command) -> bool
+    ensures { result ≡ suspends f.now.holder (its_call k) }
+{
+    k.operation == Operation::Enter && byte_at(&f.holder, k.a as usize) != 0 && !names_caller(f, k)
 }
 
 // WAIT, END, STOP of oneself and an ENTER that would suspend, while a closed region is occupied. No other call looks at these.
-fn held_off<'a>(opened: &'a [u8; REGIONS], holder: &'a [u8; REGIONS], k: Call) -> bool
-    requires opened_len { length opened.now ≡ region_room }
-    requires holder_len { length holder.now ≡ region_room }
-    ensures { result ≡ ((leaves k || suspends holder.now k) && occupied (closed_holders opened.now holder.now)) }
+fn held_off(f: &Front, k: Command) -> bool
+    ensures { result ≡ ((leaves (its_call k) || suspends f.now.holder (its_call k)) && occupied (closed_holders f.now.opened f.now.holder)) }
 {
-    let suspends = suspends_of(holder, k);
-    if leaves_of(k) | suspends {
-        return closed_held(opened, holder) != 0;
-    }
-    false
+    (leaves_of(k) || suspends_of(f, k)) && closed_held(f) != 0
 }
 
 // WAIT by a holder of an open region.
-fn wait_holding<'a>(opened: &'a [u8; REGIONS], holder: &'a [u8; REGIONS], k: Call) -> bool
-    requires opened_len { length opened.now ≡ region_room }
-    requires holder_len { length holder.now ≡ region_room }
-    ensures { result ≡ (eqb k.operation WAIT && holds_open opened.now holder.now k.caller) }
+fn wait_holding(f: &Front, k: Command) -> bool
+    ensures { result ≡ (eqb (operation_number k.operation) WAIT && holds_open f.now.opened f.now.holder k.caller) }
 {
-    if k.operation == WAIT {
-        return holds_open(opened, holder, k.caller as u32);
-    }
-    false
+    k.operation == Operation::Wait && holds_open(f, u32::from(k.caller))
 }
 
 // 16, in both its forms.
-pub(crate) fn inside_of<'a>(opened: &'a [u8; REGIONS], holder: &'a [u8; REGIONS], k: Call) -> bool
-    requires opened_len { length opened.now ≡ region_room }
-    requires holder_len { length holder.now ≡ region_room }
-    ensures { result ≡ inside opened.now holder.now k }
+#[tactic(auto, unfolding(rules::specs::Refusals::inside))]
+pub(crate) fn inside_of(f: &Front, k: Command) -> bool
+    ensures { result ≡ inside f.now.opened f.now.holder (its_call k) }
 {
-    let off = held_off(opened, holder, k);
-    off | wait_holding(opened, holder, k)
+    held_off(f, k) || wait_holding(f, k)
 }
 
 // 22: ENTER of a region of one's own whose count is at its end.
-pub(crate) fn deepest_of<'a>(holder: &'a [u8; REGIONS], entries: &'a [u8; REGIONS], k: Call) -> bool
-    requires holder_len { length holder.now ≡ region_room }
-    requires entries_len { length entries.now ≡ region_room }
-    ensures { result ≡ deepest holder.now entries.now k }
+pub(crate) fn deepest_of(f: &Front, k: Command) -> bool
+    ensures { result ≡ deepest f.now.holder f.now.entries (its_call k) }
 {
-    let h = byte_at(holder, k.a as usize);
-    let n = byte_at(entries, k.a as usize);
-    (k.operation == ENTER) & (((h as u32) == (k.caller as u32) + 1) & (n == 255))
+    k.operation == Operation::Enter
+        && names_caller(f, k)
+        && byte_at(&f.entries, k.a as usize) == 255
 }
 
 // 23: EXIT of a region that the caller doesn't hold.
-pub(crate) fn not_held_of(holder: &[u8; REGIONS], k: Call) -> bool
-    requires { length holder.now ≡ region_room }
-    ensures { result ≡ not_held holder.now k }
+pub(crate) fn not_held_of(f: &Front, k: Command) -> bool
+    ensures { result ≡ not_held f.now.holder (its_call k) }
 {
-    let h = byte_at(holder, k.a as usize);
-    (k.operation == EXIT) & ((h as u32) != (k.caller as u32) + 1)
+    k.operation == Operation::Exit && !names_caller(f, k)
 }
 
 // 24: ENTER that would suspend, where the way from the region's holder comes to the caller.
-pub(crate) fn circle_of<'a>(awaits: &'a [u8; TASKS], holder: &'a [u8; REGIONS], k: Call) -> bool
-    requires awaits_len { length awaits.now ≡ task_room }
-    requires holder_len { length holder.now ≡ region_room }
-    ensures { result ≡ closes_circle awaits.now holder.now k }
+#[tactic(auto, unfolding(rules::specs::Refusals::closes_circle))]
+pub(crate) fn circle_of(f: &Front, k: Command) -> bool
+    ensures { result ≡ closes_circle f.now.awaits f.now.holder (its_call k) }
 {
-    let h = byte_at(holder, k.a as usize);
+    let h = byte_at(&f.holder, k.a as usize);
     if h == 0 {
         return false;
     }
-    if suspends_of(holder, k) {
-        return meets_of(k.caller, h - 1, awaits, holder);
-    }
-    false
+    suspends_of(f, k) && meets_of(f, k.caller, h - 1)
 }
 
 // 25: STOP or END of a task that holds an open region.
-#[tactic(auto, using(crate::proofs::Tests::stops_stop, crate::proofs::Tests::stops_end, crate::proofs::Tests::stops_none))]
-pub(crate) fn stops_holder_of<'a>(
-    opened: &'a [u8; REGIONS],
-    holder: &'a [u8; REGIONS],
-    k: Call,
-) -> bool
-    requires opened_len { length opened.now ≡ region_room }
-    requires holder_len { length holder.now ≡ region_room }
-    ensures { result ≡ stops_holder opened.now holder.now k }
+#[tactic(auto, unfolding(rules::specs::Refusals::stops_holder))]
+pub(crate) fn stops_holder_of(f: &Front, k: Command) -> bool
+    ensures { result ≡ stops_holder f.now.opened f.now.holder (its_call k) }
 {
-    if k.operation == STOP {
-        return holds_open(opened, holder, k.a);
+    match k.operation {
+        Operation::Stop => holds_open(f, k.a),
+        Operation::End => holds_open(f, u32::from(k.caller)),
+        _ => false,
     }
-    if k.operation == END {
-        return holds_open(opened, holder, k.caller as u32);
-    }
-    false
 }

@@ -1,6 +1,6 @@
 -- Laws of the bits of all entries: where the regions are right they are the first occupied one's, so that no walk to it is needed.
-use Rattle.std.proofs.Common.{◌≡◌, ℕ, suc, ◌+◌, ◌<◌, ◌≤◌, Bool, true, false, cond, ◌&&◌, ◌||◌, eqb, ltb, List, [], ◌∷◌, length, get_or, drop, refl, ⊎_elim, add-one, arith, drop_of_length-le, drop-cons, eqb-true}
-use lib.Bits.{bit_or, or_zero_l, or_zero_r, or_self}
+use Rattle.std.proofs.Common.{◌≡◌, ℕ, suc, ◌<◌, Bool, true, false, cond, ◌&&◌, ◌||◌, eqb, ltb, List, [], ◌∷◌, ◌++◌, length, get_or, refl, ⊎_elim, arith, eqb-true, bit_or}
+use lib.Bits.{or_zero_l, or_zero_r, or_self}
 use Rattle.rules.specs.Numbers.{region_room}
 use Rattle.rules.specs.Words.{is_zero}
 use Rattle.rules.specs.Regions.{held}
@@ -11,16 +11,12 @@ use Rattle.rules.proofs.States.{closed_at, length_closed}
 use Rattle.rules.specs.Checks.{region_fits, regions_right}
 use Rattle.regions.specs.Bits.{or_all}
 
--- ---- the loop
+-- ---- one region more
 
-module _ (i bits : ℕ) (holders : List ℕ) {v : ℕ} where
-  pub or_again : {h : ℕ} → h ≡ get_or holders i 0 → i < length holders → or_all bits (drop i holders) ≡ v → or_all (bit_or bits h) (drop (i + 1) holders) ≡ v
-  unfolding or_all
-  or_again e l k = rw (add-one, e) (rw (drop-cons holders i 0) at k)
-
-  pub or_end : length holders ≤ i → or_all bits (drop i holders) ≡ v → bits ≡ v
-  unfolding or_all
-  or_end h k = rw drop_of_length-le at k
+pub bits_more : (b : ℕ) (hs : List ℕ) (h : ℕ) → or_all b (hs ++ (h ∷ [])) ≡ bit_or (or_all b hs) h
+unfolding or_all
+bits_more b [] h = refl
+bits_more b (x ∷ xs) h = bits_more (bit_or b x) xs h
 
 -- ---- where every entry is 0 or m
 

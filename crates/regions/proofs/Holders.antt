@@ -1,28 +1,55 @@
 -- Laws of who holds: the scan for the first occupied region, and the holder behind an entry.
-use Rattle.std.proofs.Common.{◌≡◌, ℕ, ◌+◌, ◌-◌, ◌<◌, ◌≤◌, Bool, true, false, not, ◌||◌, ◌≢◌, List, length, get_or, drop, sym, refl, ◌∙◌, ⊎_elim, add-one, drop_of_length-le, drop-cons, eq-eqb, ne_eqb, le-leb}
-use lib.ListN.{get_or-eq_default}
+use Rattle.std.proofs.Common.{◌≡◌, ℕ, ◌-◌, ◌<◌, ◌≤◌, Bool, true, false, not, ◌&&◌, ◌||◌, ◌≢◌, zero, suc, cond, List, [], ◌∷◌, map, length, get_or, Option, None, Some, sym, refl, ◌∙◌, ⊎_elim, arith, eq-eqb, ne_eqb, le-leb}
+use Rattle.std.specs.List.{AllWithin, HoldsAt, zip}
+use Rattle.std.specs.Option.{MatchOption, unwrap_or}
+use Rattle.rules.specs.Numbers.{region_room}
+use Rattle.rules.proofs.Columns.{column_is}
+use Rattle.rules.proofs.Folds.{zip_at, zip_length}
+use lib.ListN.{get_or-eq_default, length-map}
+use Rattle.std.proofs.lemmas.List.{get_or-map}
 use borrow.Author.Tests.{eqb-false, lt-leb}
 use Rattle.rules.specs.Words.{is_zero}
 use Rattle.rules.specs.Regions.{held}
 use Rattle.rules.specs.Election.{ready_at}
-use Rattle.rules.specs.Urgency.{is_open}
+use Rattle.rules.specs.Urgency.{is_open, closed_holders}
 use Rattle.rules.specs.Checks.{holder_right, open_holder_fits}
 use Rattle.rules.proofs.Bools.{or_left, or_right, or_second, or_cases}
 
--- ---- the scan
+-- ---- the first occupied one
 
-module _ (i : ℕ) (holders : List ℕ) {v : ℕ} where
-  pub held_again : {h : ℕ} → h ≡ get_or holders i 0 → i < length holders → h ≡ 0 → held (drop i holders) ≡ v → held (drop (i + 1) holders) ≡ v
-  unfolding held
-  held_again f l e k = rw add-one (simp (eq-eqb (get_or holders i 0) 0 (sym f ∙ e)) at (rw (drop-cons holders i 0) at k))
+none_held : (hs : List ℕ) → AllWithin (λ h. h ≡ 0) hs 0 (length hs) → 0 ≡ held hs
+unfolding held
+none_held [] a = refl
+none_held (h ∷ hs) a = rw (a 0 0 (omega arith) (omega arith)) (none_held hs (λ k d l m. a (suc k) d (omega arith) (omega arith)))
 
-  pub held_here : {h : ℕ} → h ≡ get_or holders i 0 → i < length holders → (h ≡ 0 → ⊥) → held (drop i holders) ≡ v → h ≡ v
-  unfolding held
-  held_here f l e k = f ∙ (simp (ne_eqb (get_or holders i 0) 0 (λ z. e (f ∙ z))) at (rw (drop-cons holders i 0) at k))
+some_held : (hs : List ℕ) (i x : ℕ) → (x ≡ 0 → ⊥) → i < length hs → HoldsAt (λ h. h ≡ x) hs i → AllWithin (λ h. h ≡ 0) hs 0 i → x ≡ held hs
+unfolding held
+some_held [] i x n l e a = absurd (omega arith)
+some_held (h ∷ hs) zero x n l e a = let same : h ≡ x = e 0 in rw (same, ne_eqb x 0 n) refl
+some_held (h ∷ hs) (suc i) x n l e a =
+    rw (a 0 0 (omega arith) (omega arith)) (some_held hs i x n (omega arith) e (λ k d m o. a (suc k) d (omega arith) (omega arith)))
 
-  pub held_end : length holders ≤ i → held (drop i holders) ≡ v → 0 ≡ v
-  unfolding held
-  held_end h k = rw drop_of_length-le at k
+-- as `find` gives it
+pub held_found : (hs : List ℕ) (r : Option ℕ) → MatchOption r (AllWithin (λ h. h ≡ 0) hs 0 (length hs))
+    (λ x. (x ≡ 0 → ⊥) × (i : ℕ) × (i < length hs) × HoldsAt (λ h. h ≡ x) hs i × AllWithin (λ h. h ≡ 0) hs 0 i)
+    → unwrap_or r 0 ≡ held hs
+held_found hs None h = none_held hs h
+held_found hs (Some x) (n, i, l, e, a) = some_held hs i x n l e a
+
+-- the closed ones' entries, side by side with the marks
+pub closed_pairs : (opened holder : List ℕ) → length opened ≡ region_room → length holder ≡ region_room
+    → map (λ (z : ℕ × ℕ). cond (is_open z.0) 0 z.1) (zip opened holder) ≡ closed_holders opened holder
+unfolding closed_holders
+closed_pairs opened holder l m =
+    let pairs = zip_length 0 0 region_room opened holder l m in
+    let long : length (map (λ (z : ℕ × ℕ). cond (is_open z.0) 0 z.1) (zip opened holder)) ≡ region_room = rw length-map pairs in
+    sym (column_is region_room (λ r. cond (is_open (get_or opened r 0)) 0 (get_or holder r 0)) _ long (λ i k. sym (pair_at i k)))
+  where
+    pair_at : (i : ℕ) → i < region_room → get_or (map (λ (z : ℕ × ℕ). cond (is_open z.0) 0 z.1) (zip opened holder)) i 0 ≡ cond (is_open (get_or opened i 0)) 0 (get_or holder i 0)
+    pair_at i k =
+        let long = zip_length 0 0 region_room opened holder l m in
+        get_or-map (λ (z : ℕ × ℕ). cond (is_open z.0) 0 z.1) (zip opened holder) i (0, 0) 0 (omega arith)
+        ∙ rw (zip_at 0 0 opened holder i (omega arith) (omega arith)) refl
 
 -- ---- the holder behind an entry: none; past the count; a task; past all tasks
 
@@ -68,3 +95,9 @@ module _ (tasks : ℕ) (states : List ℕ) (mark h : ℕ) where
 -- a task past all is not ready
 pub unready : (states : List ℕ) (i : ℕ) → length states ≤ i → false ≡ ready_at states i
 unready states i l = rw (get_or-eq_default states 0 l)
+
+-- one region more that is asked
+pub one_more : (none holds : Bool) → (not none || holds) ≡ not (none && not holds)
+one_more true true = refl
+one_more true false = refl
+one_more false holds = refl

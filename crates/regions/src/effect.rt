@@ -13,6 +13,7 @@ pub fn held_by_other(mine: u8, r: Region) -> bool
 }
 
 // The region after ENTER by the task whose entry is `mine`: counted once more, or as it was where another task holds it.
+#[tactic(auto, unfolding(crate::specs::Effects::region_entered))]
 pub fn entered(mine: u8, r: Region) -> Region
     ensures { result ≡ region_entered mine r }
 {
@@ -21,7 +22,7 @@ pub fn entered(mine: u8, r: Region) -> Region
     }
     Region {
         holder: mine,
-        entries: std::num::wrapping_add_u8(r.entries, 1),
+        entries: r.entries.wrapping_add(1),
     }
 }
 
@@ -45,6 +46,7 @@ fn exited(r: Region) -> Region
 }
 
 // The region after EXIT: where there is an heir, its own with count 1.
+#[tactic(auto, unfolding(crate::specs::Effects::region_left))]
 pub fn left_to(heir: u8, r: Region) -> Region
     ensures { result ≡ region_left heir r }
 {
@@ -52,7 +54,7 @@ pub fn left_to(heir: u8, r: Region) -> Region
         return exited(r);
     }
     Region {
-        holder: std::num::wrapping_add_u8(heir, 1),
+        holder: heir.wrapping_add(1),
         entries: 1,
     }
 }

@@ -1,16 +1,12 @@
 -- Laws of a replay: the arrays keep their lengths, and what comes of it on a block.
-use Prim.Native.Nat.{ℕ, zero, suc}
-use mathlib.Core.Path.{◌≡◌, refl, sym, ap, subst, ◌∙◌}
-use mathlib.Core.Bool.{true, false}
-use mathlib.Core.List.{List}
-use lib.ListN.{length, replicate, length-replicate}
-use borrow.Author.Tests.{eq-eqb, ne_eqb}
+use Rattle.std.proofs.Common.{ℕ, zero, suc, ◌≡◌, refl, sym, ap, subst, ◌∙◌, true, false, List, length, replicate, eq-eqb, ne_eqb}
+use lib.ListN.{length-replicate}
 use Rattle.rules.specs.declared.Table.{Table}
 use Rattle.rules.specs.Numbers.{store_size}
 use Rattle.tables.specs.declared.front.Front.{Front}
 use Rattle.tables.specs.Fronts.{whole, front_of}
 use Rattle.layout.specs.Layout.{block_size, element_place, criterion_place, unpacked, packed, unused_zero}
-use Rattle.packing.specs.Bytes.{taken}
+use Rattle.packing.specs.Bytes.{word_width, taken}
 use Rattle.layout.specs.Fronts.{front_taken}
 use Rattle.layout.proofs.Reading.{parts_read}
 use Rattle.layout.proofs.Sizes.{Sized, unpacked_sized}
@@ -26,17 +22,7 @@ unfolding replayed
 replayed_sized t log old zero s = s
 replayed_sized t log old (suc n) s = step_sized (replayed t log old n).table (call_at log n) (replayed_sized t log old n s)
 
--- a block's front and store, taken out into arrays of zeros, are its table
-pub table_read : (block : List ℕ) → length block ≡ block_size → {f : Front} {es cs : List ℕ} → f ≡ front_taken block
-    → es ≡ taken 4 element_place block (replicate store_size 0) → cs ≡ taken 1 criterion_place block (replicate store_size 0) → whole f es cs ≡ unpacked block
-table_read block size p q r =
-    parts_read block size _ p _ _ (length-replicate {A = ℕ} store_size 0) q _ _ (length-replicate {A = ℕ} store_size 0) r
-
-pub replayed_long : (block log answers : List ℕ) {t : Table} → t ≡ unpacked block → {es cs : List ℕ} → es ≡ (logged t log answers).table.element
-    → cs ≡ (logged t log answers).table.criterion → (length es ≡ store_size) × (length cs ≡ store_size)
-replayed_long block log answers is p q =
-    let s = replayed_sized (unpacked block) log answers (laps log answers) (unpacked_sized block) in
-    rw (p, q, is) (s.element_long, s.criterion_long)
+-- ---- what comes of a block that is no table
 
 module _ (block log answers : List ℕ) where
   abbrev Comes : ℕ → List ℕ → List ℕ → Type 0
@@ -51,14 +37,37 @@ module _ (block log answers : List ℕ) where
   unfolding replay_block
   replay_used size u = rw (eq-eqb (length block) block_size size, u) (refl, (refl, refl))
 
-  pub replay_done : length block ≡ block_size → unused_zero block ≡ true → {t : Table} → t ≡ unpacked block
-      → {n : ℕ} {f : Front} {es cs said after : List ℕ}
-      → (n ≡ laps log answers) × ((f ≡ front_of (logged t log answers).table)
-      × ((es ≡ (logged t log answers).table.element) × ((cs ≡ (logged t log answers).table.criterion) × (said ≡ (logged t log answers).answers))))
-      → after ≡ whole_put f es cs block → Comes n after said
+  pub replay_count : (n : ℕ) → length block ≡ block_size → unused_zero block ≡ true → n ≡ laps log answers → n ≡ (replay_block block log answers).count
   unfolding replay_block
-  replay_done size u {t} is {f = f} {es} {cs} (many, (p, (q, (s, a)))) w =
-      let together : whole f es cs ≡ (logged t log answers).table = rw (q, s, p) refl in
-      let there = subst (λ u. Sized (logged u log answers).table) (sym is) (replayed_sized (unpacked block) log answers (laps log answers) (unpacked_sized block)) in
-      let put = whole_put_lem f es cs block (subst Sized (sym together) there) size in
-      rw (eq-eqb (length block) block_size size, u) (many, (w ∙ put ∙ ap packed together ∙ rw is refl, a ∙ rw is refl))
+  replay_count n size u many = rw (eq-eqb (length block) block_size size, u) many
+
+-- ---- what comes of a table: its front and its store, taken out into arrays of zeros
+
+module _ (block log answers : List ℕ) (size : length block ≡ block_size) (zero_there : unused_zero block ≡ true)
+    (f : Front) (front_is : f ≡ front_taken block)
+    (es cs : List ℕ) (es_is : es ≡ taken word_width element_place block (replicate store_size 0))
+    (cs_is : cs ≡ taken 1 criterion_place block (replicate store_size 0)) where
+  abbrev after : Table
+  after = (logged (unpacked block) log answers).table
+
+  table_is : whole f es cs ≡ unpacked block
+  table_is =
+      let zeros = length-replicate {A = ℕ} store_size 0 in
+      parts_read block size f front_is _ es zeros es_is _ cs zeros cs_is
+
+  pub replay_answers : (said : List ℕ) → said ≡ (logged (whole f es cs) log answers).answers → said ≡ (replay_block block log answers).answers
+  unfolding replay_block
+  replay_answers said a = rw (eq-eqb (length block) block_size size, zero_there) (rw table_is at a)
+
+  pub replay_stored : (g : Front) (es' cs' out : List ℕ) → g ≡ front_of (logged (whole f es cs) log answers).table
+      → es' ≡ (logged (whole f es cs) log answers).table.element → cs' ≡ (logged (whole f es cs) log answers).table.criterion
+      → out ≡ whole_put g es' cs' block → out ≡ (replay_block block log answers).block
+  unfolding replay_block
+  replay_stored g es' cs' out p q s w =
+      let together : whole g es' cs' ≡ after = rw (q, s, p, table_is) refl in
+      let sized = replayed_sized (unpacked block) log answers (laps log answers) (unpacked_sized block) in
+      rw (eq-eqb (length block) block_size size, zero_there)
+      (w ∙ whole_put_lem g es' cs' block (subst Sized (sym together) sized) size ∙ ap packed together)
+
+-- no table, or a replay
+pub ruleset on_a_block = (replay_small, replay_used, replay_count, replay_answers, replay_stored)

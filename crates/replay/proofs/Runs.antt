@@ -1,35 +1,27 @@
 -- Laws of a log of calls: one call more, and all of them.
-use Prim.Native.Nat.{ℕ, ◌+◌, ◌≤◌}
-use mathlib.Core.Path.{◌≡◌, refl, sym, ap, ◌∙◌}
-use mathlib.Core.Bool.{Bool}
-use mathlib.Core.List.{List}
-use native.Mathlib.Omega.{arith}
-use native.Mathlib.Numerals.{add-one}
-use lib.ListN.{length, set}
+use Rattle.std.proofs.Common.{ℕ, zero, suc, ◌+◌, ◌*◌, ◌<◌, ◌≡◌, refl, sym, ap, ◌∙◌, Bool, List, arith, add-one, get_or, set, take, drop, drop-drop, get_or-take, get_or-drop}
+use Rattle.std.specs.Simd.{first_chunks}
 use Rattle.rules.specs.declared.Table.{Table}
 use Rattle.rules.specs.declared.Call.{Call}
-use Rattle.rules.specs.Numbers.{store_size}
 use Rattle.rules.specs.Validity.{valid}
 use Rattle.rules.specs.Step.{step}
-use Rattle.theorems.proofs.Kept.{valid_same, store_kept}
+use Rattle.theorems.proofs.Kept.{valid_same}
 use Rattle.packing.specs.Answers.{answer_number}
 use Rattle.tables.specs.declared.front.Front.{Front}
 use Rattle.tables.specs.declared.front.FrontDone.{FrontDone}
-use Rattle.tables.specs.Fronts.{whole, front_of, front_done}
-use Rattle.replay.specs.Log.{call_at, replayed, laps, logged}
+use Rattle.tables.specs.Fronts.{whole, front_done}
+use Rattle.replay.specs.Log.{call_at, replayed}
 
 -- what stands after some calls: the table, the answers, and what is known of the table
 pub record Ran (t : Table) (log old : List ℕ) (known : Bool) (n : ℕ) (f : Front) (es cs answers : List ℕ) : Type 0 where
   pub table : whole f es cs ≡ (replayed t log old n).table
   pub said : answers ≡ (replayed t log old n).answers
   pub valid_is : known ≡ valid (whole f es cs)
-  pub element_long : length es ≡ store_size
-  pub criterion_long : length cs ≡ store_size
 
-pub ran_none : (log old : List ℕ) (known : Bool) (f : Front) (es cs : List ℕ) → known ≡ valid (whole f es cs) → length es ≡ store_size → length cs ≡ store_size
+pub ran_none : (log old : List ℕ) (known : Bool) (f : Front) (es cs : List ℕ) → known ≡ valid (whole f es cs)
     → Ran (whole f es cs) log old known 0 f es cs old
 unfolding replayed
-ran_none log old known f es cs v l m = record { table = refl; said = refl; valid_is = v; element_long = l; criterion_long = m }
+ran_none log old known f es cs v = record { table = refl; said = refl; valid_is = v }
 
 module _ (t : Table) (log old : List ℕ) (known : Bool) (n : ℕ) (f : Front) (es cs answers : List ℕ) (r : Ran t log old known n f es cs answers)
     (k : Call) (is : k ≡ call_at log n) (d : FrontDone) (p : d ≡ front_done (step (whole f es cs) k))
@@ -41,29 +33,31 @@ module _ (t : Table) (log old : List ℕ) (known : Bool) (n : ℕ) (f : Front) (
   pub ran_again : Ran t log old known (n + 1) d.front es' cs' (set answers n number)
   unfolding replayed
   ran_again =
-      let long = rw (← together) at (store_kept (whole f es cs) k (r.element_long, r.criterion_long)) in
       rw add-one
       (record {
         table = together ∙ rw (r.table, is) refl;
         said = rw (a, p, r.said, r.table, is) refl;
         valid_is = r.valid_is ∙ sym (ap valid together ∙ valid_same (whole f es cs) k);
-        element_long = long.0;
-        criterion_long = long.1;
       })
 
--- all of them
-pub ran_all : (t : Table) (log old : List ℕ) (known : Bool) (i n : ℕ) (f : Front) (es cs answers : List ℕ) → Ran t log old known i f es cs answers → i ≤ n → n ≤ i
-    → (f ≡ front_of (replayed t log old n).table)
-    × ((es ≡ (replayed t log old n).table.element) × ((cs ≡ (replayed t log old n).table.criterion) × (answers ≡ (replayed t log old n).answers)))
-ran_all t log old known i n f es cs answers r l h =
-    let same : i ≡ n = omega arith in
-    let table = rw same at r.table in
-    (ap front_of table, (ap (λ u. u.element) table, (ap (λ u. u.criterion) table, rw same at r.said)))
+-- five numbers of a log, cut out of it
+chunk_at : (log : List ℕ) (m i : ℕ) (d : List ℕ) → i < m → get_or (first_chunks 5 m log) i d ≡ take 5 (drop (5 * i) log)
+chunk_at log zero i d h = absurd (omega arith)
+chunk_at log (suc m) zero d h = refl
+chunk_at log (suc m) (suc i) d h =
+    let e : 5 + 5 * i ≡ 5 * suc i = omega arith in
+    chunk_at (drop 5 log) m i d (omega arith) ∙ ap (take 5) (drop-drop (5 * i) 5 log ∙ ap (λ (k : ℕ). drop k log) e)
 
--- as many calls as there are and have room
-pub laps_made : (t : Table) (log answers : List ℕ) (n : ℕ) → n ≡ laps log answers → {f : Front} {es cs said : List ℕ}
-    → (f ≡ front_of (replayed t log answers n).table)
-    × ((es ≡ (replayed t log answers n).table.element) × ((cs ≡ (replayed t log answers n).table.criterion) × (said ≡ (replayed t log answers n).answers)))
-    → (n ≡ laps log answers) × ((f ≡ front_of (logged t log answers).table)
-    × ((es ≡ (logged t log answers).table.element) × ((cs ≡ (logged t log answers).table.criterion) × (said ≡ (logged t log answers).answers))))
-laps_made t log answers n is p = (is, rw is at p)
+-- the call that they are
+pub call_there : (log : List ℕ) (m i : ℕ) (d : List ℕ) → i < m → call_at (get_or (first_chunks 5 m log) i d) 0 ≡ call_at log i
+call_there log m i d h =
+    let part : (k : ℕ) → k < 5 → get_or (take 5 (drop (5 * i) log)) k 0 ≡ get_or log (5 * i + k) 0 =
+    λ k l. rw (get_or-take 5 (drop (5 * i) log) k 0 l, get_or-drop) refl
+    in
+    let z : 5 * i + 0 ≡ 5 * i = omega arith in
+    let first : get_or (take 5 (drop (5 * i) log)) 0 0 ≡ get_or log (5 * i) 0 = rw z at (part 0 (omega arith)) in
+    let second = part 1 (omega arith) in
+    let third = part 2 (omega arith) in
+    let fourth = part 3 (omega arith) in
+    let fifth = part 4 (omega arith) in
+    rw (chunk_at log m i d h, first, second, third, fourth, fifth) refl

@@ -32,3 +32,4 @@ pub mod Quick
 pub mod Rows
 pub mod OpenRows
 pub mod OpenTables
+pub mod Folds

@@ -13,6 +13,8 @@ pub mod Tables
 pub mod Validity
 pub mod Checks
 pub mod Answers
+pub mod Statuses
+pub mod Commands
 pub mod Fresh
 pub mod Refusals
 pub mod Effects

@@ -1,13 +1,5 @@
--- Laws of the lent buffers: a part moved to the front, what a piece leaves, and the answer at the end.
-use Prim.Native.Nat.{ℕ, zero, suc, ◌+◌, ◌*◌, ◌-◌, ◌/◌, ◌<◌, ◌≤◌, min}
-use mathlib.Core.Path.{◌≡◌, refl, sym, ap, ◌∙◌}
-use mathlib.Core.Bool.{Bool, true, false, cond}
-use mathlib.Core.List.{List, [], ◌∷◌, ◌++◌, append_assoc}
-use native.Mathlib.Omega.{arith}
-use native.Mathlib.Numerals.{add-one}
-use lib.Dec.{eqb, ltb, leb}
-use lib.ListN.{length, take, drop, get_or, set, length-take, length-drop}
-use lib.Seq.{take-suc, take_all, take-take, take-add, drop_at, drop-cons, length-take-le, set_at, get_or-append-add, get_or-drop}
+-- Laws of the lent buffers: what a piece leaves, and how much is written.
+use Rattle.std.proofs.Common.{ℕ, zero, suc, ◌+◌, ◌*◌, ◌-◌, ◌/◌, ◌≤◌, min, ◌≡◌, refl, sym, ap, ◌∙◌, Bool, true, false, cond, List, [], ◌∷◌, arith, eqb, ltb, leb, length, take, drop, length-take, length-drop, take_all, take-take, take-add, drop_at, length-take-le}
 use borrow.Author.Tests.{leb-true, leb-false}
 use Rattle.lines.specs.Ends.{line_feed}
 use Rattle.frames.specs.Answers.{answer_length}
@@ -18,27 +10,6 @@ use Rattle.session.specs.Lines.{onto, cut, standing_after}
 use Rattle.session.specs.Feed.{fitting, taken, over, feed_progress, piece_answers}
 use Rattle.session.specs.Run.{most_kept, kept}
 use Rattle.session.specs.Pieces.{piece_left, piece_result}
-
--- ---- a part moved to the front
-
-module _ (from n i : ℕ) (l s : List ℕ) (e : s ≡ take i (drop from l) ++ drop i l) (fits : from + n ≤ length l) where
-  moved_long : i ≤ n → length (take i (drop from l)) ≡ i
-  moved_long h = length-take-le i (drop from l) (rw length-drop (omega arith))
-
-  pub front_again : i < n → set s i (get_or s (from + i) 0) ≡ take (i + 1) (drop from l) ++ drop (i + 1) l
-  front_again h =
-      let long = moved_long (omega arith) in
-      let place : from + i ≡ length (take i (drop from l)) + from = rw long (omega arith) in
-      let same : i + from ≡ from + i = omega arith in
-      let read : get_or s (from + i) 0 ≡ get_or (drop from l) i 0 =
-      rw (e, place, get_or-append-add (take i (drop from l)) (drop i l) from 0, get_or-drop i l from 0, same) (sym (get_or-drop from l i 0)) in
-      let inside : i < length (drop from l) = rw length-drop (omega arith) in
-      let stored = set_at (take i (drop from l)) (get_or l i 0) (drop (suc i) l) (get_or (drop from l) i 0) i long in
-      rw (read, e, drop-cons l i 0 (omega arith), stored, add-one, take-suc (drop from l) i 0 inside)
-      (sym (append_assoc (take i (drop from l)) (get_or (drop from l) i 0 ∷ []) (drop (suc i) l)))
-
-  pub front_end : i ≤ n → n ≤ i → s ≡ over (take n (drop from l)) l
-  front_end h k = let same : i ≡ n = omega arith in rw (e, ← same, moved_long h)
 
 -- ---- what a piece leaves
 

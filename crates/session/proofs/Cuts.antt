@@ -1,12 +1,5 @@
 -- Laws of lines cut from bytes: the first line and what follows it, and bytes joined to bytes.
-use Prim.Native.Nat.{ℕ, zero, suc, ◌<◌}
-use mathlib.Core.Path.{◌≡◌, refl}
-use mathlib.Core.Bool.{Bool, true, false}
-use mathlib.Core.List.{List, [], ◌∷◌, ◌++◌}
-use native.Mathlib.Omega.{arith}
-use native.Mathlib.Nat.{le_of_suc-le-suc}
-use lib.Dec.{eqb}
-use lib.ListN.{length, take, drop}
+use Rattle.std.proofs.Common.{ℕ, zero, suc, ◌<◌, ◌≡◌, refl, Bool, true, false, List, [], ◌∷◌, ◌++◌, arith, le_of_suc-le-suc, eqb, length, take, drop}
 use Rattle.rules.specs.Queues.{before}
 use Rattle.lines.specs.Ends.{line_feed}
 use Rattle.session.specs.Lines.{Cut, onto, cut}

@@ -1,11 +1,5 @@
 -- Laws of the end of the input: nothing is left, there is no room, or one answer is written.
-use Prim.Native.Nat.{ℕ, ◌<◌, ◌≤◌}
-use mathlib.Core.Path.{◌≡◌, refl}
-use mathlib.Core.Bool.{Bool, true, false}
-use mathlib.Core.List.{List, [], ◌∷◌}
-use native.Mathlib.Omega.{arith}
-use lib.Dec.{leb}
-use lib.ListN.{length}
+use Rattle.std.proofs.Common.{ℕ, ◌<◌, ◌≤◌, ◌≡◌, refl, Bool, true, false, List, [], ◌∷◌, arith, leb, length}
 use borrow.Author.Tests.{le-leb, lt-leb, leb-true}
 use Rattle.frames.specs.Answers.{answer_length, answer_line, placed}
 use Rattle.frames.proofs.Written.{answer_length_lem}

@@ -1,10 +1,6 @@
 -- Laws of the first line's answer, test by test as the code has them.
-use Prim.Native.Nat.{ℕ, ◌<◌, ◌≤◌}
-use mathlib.Core.Path.{◌≡◌, refl}
-use mathlib.Core.Bool.{Bool, true, false}
-use mathlib.Core.List.{List}
-use lib.ListN.{length}
-use borrow.Author.Tests.{le-leb, lt-leb, ne_eqb}
+use Rattle.std.proofs.Common.{ℕ, ◌<◌, ◌≤◌, ◌≡◌, refl, Bool, true, false, List, length, Some, None}
+use borrow.Author.Tests.{le-leb, lt-leb}
 use Rattle.rules.specs.declared.Table.{Table}
 use Rattle.frames.specs.Answers.{answer_length, answer_line, placed}
 use Rattle.bench_lines.specs.declared.first.FirstLine.{FirstLine}
@@ -25,12 +21,12 @@ module _ (t : Table) (begun : Bool) (input old : List ℕ) (r : Progress) where
   unfolding answers_first first_progress first_out
   first_no_room b l e = rw (b, lt-leb answer_length (length old) l) (e, refl)
 
-  module _ (b : begun ≡ false) (l : answer_length ≤ length old) (u : FirstLine) (e : u ≡ first_line_at input) where
-    pub first_no_line : u.next ≡ 0 → r ≡ progress_of t false 0 0 → Answered old
+  module _ (b : begun ≡ false) (l : answer_length ≤ length old) where
+    pub first_no_line : None ≡ first_line_at input → r ≡ progress_of t false 0 0 → Answered old
     unfolding answers_first first_progress first_out
-    first_no_line n k = rw (b, le-leb answer_length (length old) l, ← e, n) (k, refl)
+    first_no_line e k = rw (b, le-leb answer_length (length old) l, ← e) (k, refl)
 
-    pub first_written : (u.next ≡ 0 → ⊥) → (new : List ℕ) → new ≡ placed 0 (answer_line u.done.answer) old
-        → r ≡ progress_of u.done.table true u.next answer_length → Answered new
+    pub first_written : (line : FirstLine) → Some line ≡ first_line_at input → (new : List ℕ) → new ≡ placed 0 (answer_line line.done.answer) old
+        → r ≡ progress_of line.done.table true line.next answer_length → Answered new
     unfolding answers_first first_progress first_out
-    first_written n new k f = rw (b, le-leb answer_length (length old) l, ← e, ne_eqb u.next 0 n) (f, k)
+    first_written line e new k f = rw (b, le-leb answer_length (length old) l, ← e) (f, k)

@@ -1,12 +1,5 @@
 -- However little room there is for answers, no line is lost: those that had no room are cut again from what a piece leaves.
-use Prim.Native.Nat.{ℕ, zero, suc, ◌*◌, ◌-◌, ◌/◌}
-use mathlib.Core.Path.{◌≡◌, refl, sym, ap, subst, ◌∙◌}
-use mathlib.Core.Bool.{Bool, true, false, cond}
-use mathlib.Core.List.{List, ◌++◌, append_assoc}
-use native.Mathlib.Omega.{arith}
-use lib.Dec.{leb}
-use lib.ListN.{length, take, drop, length-take, take-append-drop}
-use lib.Seq.{take_all, drop-drop, length-take-le}
+use Rattle.std.proofs.Common.{ℕ, zero, suc, ◌*◌, ◌-◌, ◌/◌, ◌≡◌, refl, sym, ap, subst, ◌∙◌, Bool, true, false, cond, List, ◌++◌, append_assoc, arith, leb, length, take, drop, length-take, take-append-drop, take_all, drop-drop, length-take-le}
 use borrow.Author.Tests.{ltb-false, leb-true, leb-false}
 use Rattle.rules.specs.Queues.{before}
 use Rattle.rules.proofs.Retrieve.{before_le}

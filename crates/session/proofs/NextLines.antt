@@ -1,12 +1,5 @@
 -- The line that begins at a place is the first of those that are cut from there on, or there is none.
-use Prim.Native.Nat.{ℕ, suc, ◌+◌, ◌-◌, ◌<◌, ◌≤◌}
-use mathlib.Core.Path.{◌≡◌, refl, ap, ◌∙◌}
-use mathlib.Core.Bool.{Bool, true, false, cond}
-use mathlib.Core.List.{List, [], ◌∷◌}
-use native.Mathlib.Omega.{arith}
-use lib.Dec.{eqb, ltb}
-use lib.ListN.{length, take, drop}
-use lib.Seq.{drop-drop, length-take-le}
+use Rattle.std.proofs.Common.{ℕ, suc, ◌+◌, ◌-◌, ◌<◌, ◌≤◌, ◌≡◌, refl, ap, ◌∙◌, Bool, true, false, cond, List, [], ◌∷◌, arith, eqb, ltb, length, take, drop, drop-drop, length-take-le, Some, None}
 use borrow.Author.Tests.{eqb-true, eqb-false, ltb-true}
 use Rattle.rules.specs.declared.Table.{Table}
 use Rattle.rules.specs.declared.Done.{Done}
@@ -18,9 +11,10 @@ use Rattle.lines.specs.Ends.{line_feed, longest, line_in, line_at, part}
 use Rattle.bench_lines.specs.declared.start.Standing.{Standing}
 use Rattle.bench_lines.specs.declared.first.FirstLine.{FirstLine}
 use Rattle.bench_lines.specs.declared.later.LaterLine.{LaterLine}
-use Rattle.bench_lines.specs.Start.{standing}
-use Rattle.bench_lines.specs.Steps.{too_long, line_done, request_done}
-use Rattle.bench_lines.specs.Places.{next_place, first_done_by, first_line_at, request_by, later_line_at}
+use Rattle.bench_lines.specs.Start.{standing, first_refused}
+use Rattle.bench_lines.specs.First.{first_done}
+use Rattle.bench_lines.specs.Steps.{too_long, line_done, request_in, request_done}
+use Rattle.bench_lines.specs.Places.{first_line_with, first_line_by, first_line_at, later_line_with, later_line_by, later_line_at}
 use Rattle.bench_lines.proofs.LineDone.{later_done, too_long_done}
 use Rattle.session.specs.Lines.{cut}
 use Rattle.session.proofs.Cuts.{cut_ended, cut_unended}
@@ -93,12 +87,6 @@ module _ (input : List ℕ) (at : ℕ) where
       go true e = none_cut (omega (arith, within, eqb-true (length (drop at input)) 0 e))
       go false e = some (eqb n (length (drop at input))) refl
 
-  pub none_found : (l : Line) → Found l → next_place l ≡ 0 → (cut (drop at input)).lines ≡ []
-  none_found (Whole from to next) f h = absurd (omega (arith, f.moved))
-  none_found (TooLong next) f h = absurd (omega (arith, f.first.moved))
-  none_found Unended f h = f
-  none_found Nothing f h = f
-
 -- ---- what is done with it
 
 -- d is what the first of the lines does to a session that stands at s
@@ -107,36 +95,54 @@ pub record Took (s : Standing) (input : List ℕ) (at : ℕ) (d : Done) (next : 
   pub first : First input at next line
   pub did : d ≡ line_done s line
 
--- by what is done with a whole line and with one that is too long
-module _ (s : Standing) (input : List ℕ) (at : ℕ) (does : Line → Done)
-    (whole : (from to next : ℕ) → does (Whole from to next) ≡ line_done s (part from to input))
-    (long : (next : ℕ) → does (TooLong next) ≡ too_long s) where
-  took : (l : Line) → Found input at l → (next_place l ≡ 0 → ⊥) → Took s input at (does l) (next_place l)
-  took (Whole from to next) f h = record { line = part from to input; first = f; did = whole from to next }
-  took (TooLong next) f h = record { line = f.line; first = f.first; did = long next ∙ too_long_done s f.line f.long }
-  took Unended f h = absurd (h refl)
-  took Nothing f h = absurd (h refl)
-
 -- the first line of a session that stands before it
-pub first_took : (s : Standing) → s.begun ≡ false → (input : List ℕ) (r : FirstLine) → r ≡ first_line_at input → (r.next ≡ 0 → ⊥)
-    → Took s input 0 r.done r.next
+pub first_took : (s : Standing) → s.begun ≡ false → (input : List ℕ) (r : FirstLine) → Some r ≡ first_line_at input → Took s input 0 r.done r.next
 unfolding first_line_at line_done too_long
-first_took s b input r e =
-    rw e (took s input 0 (first_done_by input) (λ from to next. rw b refl) (λ next. rw b refl) (line_at input 0) (found input 0))
+first_took s b input r e = go (line_at input 0) (found input 0) e
+  where
+    go : (l : Line) → Found input 0 l → Some r ≡ first_line_by input l → Took s input 0 r.done r.next
+    go (Whole from to next) f k =
+        let is : r ≡ first_line_with (first_done (part from to input)) next = cc in
+        rw is (record { line = part from to input; first = f; did = rw b refl })
+    go (TooLong next) f k =
+        let is : r ≡ first_line_with (first_refused 21) next = cc in
+        let long : first_refused 21 ≡ too_long s = rw b refl in
+        rw is (record { line = f.line; first = f.first; did = long ∙ too_long_done s f.line f.long })
+    go Unended f k = absurd (cc)
+    go Nothing f k = absurd (cc)
 
-pub first_none : (input : List ℕ) (r : FirstLine) → r ≡ first_line_at input → r.next ≡ 0 → (cut input).lines ≡ []
+pub first_none : (input : List ℕ) → None ≡ first_line_at input → (cut input).lines ≡ []
 unfolding first_line_at
-first_none input r e = rw e (none_found input 0 (line_at input 0) (found input 0))
+first_none input e = go (line_at input 0) (found input 0) e
+  where
+    go : (l : Line) → Found input 0 l → None ≡ first_line_by input l → (cut input).lines ≡ []
+    go (Whole from to next) f k = absurd (cc)
+    go (TooLong next) f k = absurd (cc)
+    go Unended f k = f
+    go Nothing f k = f
 
 -- a later line
-pub later_took : (t : Table) (input : List ℕ) (at : ℕ) (r : LaterLine) → r ≡ later_line_at input at → (r.next ≡ 0 → ⊥)
+pub later_took : (t : Table) (input : List ℕ) (at : ℕ) (r : LaterLine) → Some r ≡ later_line_at input at
     → Took (standing t true) input at (request_done t r.request) r.next
 unfolding later_line_at line_done too_long request_done
-later_took t input at r e =
-    rw e
-    (took (standing t true) input at (λ l. request_done t (request_by input l)) (λ from to next. later_done t (part from to input)) (λ next. refl)
-    (line_at input at) (found input at))
+later_took t input at r e = go (line_at input at) (found input at) e
+  where
+    go : (l : Line) → Found input at l → Some r ≡ later_line_by input l → Took (standing t true) input at (request_done t r.request) r.next
+    go (Whole from to next) f k =
+        let is : r ≡ later_line_with (request_in (part from to input)) next = cc in
+        rw is (record { line = part from to input; first = f; did = later_done t (part from to input) })
+    go (TooLong next) f k =
+        let is : r ≡ later_line_with None next = cc in
+        rw is (record { line = f.line; first = f.first; did = too_long_done (standing t true) f.line f.long })
+    go Unended f k = absurd (cc)
+    go Nothing f k = absurd (cc)
 
-pub later_none : (input : List ℕ) (at : ℕ) (r : LaterLine) → r ≡ later_line_at input at → r.next ≡ 0 → (cut (drop at input)).lines ≡ []
+pub later_none : (input : List ℕ) (at : ℕ) → None ≡ later_line_at input at → (cut (drop at input)).lines ≡ []
 unfolding later_line_at
-later_none input at r e = rw e (none_found input at (line_at input at) (found input at))
+later_none input at e = go (line_at input at) (found input at) e
+  where
+    go : (l : Line) → Found input at l → None ≡ later_line_by input l → (cut (drop at input)).lines ≡ []
+    go (Whole from to next) f k = absurd (cc)
+    go (TooLong next) f k = absurd (cc)
+    go Unended f k = f
+    go Nothing f k = f

@@ -1,28 +1,22 @@
 -- Laws of the loop over the lines of a piece: what is done and what is ahead make the whole, from line to line.
-use Prim.Native.Nat.{ℕ, zero, suc, ◌+◌, ◌*◌, ◌-◌, ◌/◌, ◌<◌, ◌≤◌}
-use mathlib.Core.Path.{◌≡◌, refl, sym, ap, ◌∙◌}
-use mathlib.Core.Bool.{Bool, true, false, cond, not, ◌&&◌, true≢false}
-use mathlib.Core.List.{List, [], ◌∷◌, ◌++◌, append_assoc, append-nil}
-use native.Mathlib.Omega.{arith}
-use lib.Dec.{leb}
-use lib.ListN.{length, take, drop, length-append, length-drop, take-append-drop}
-use lib.Seq.{take-nil, take_at, drop_at, drop-drop, length-take-le}
-use borrow.Author.Tests.{le-leb, leb-true, leb-false, eqb-true, eqb-false, not-true, not-false}
+use Rattle.std.proofs.Common.{ℕ, zero, suc, ◌+◌, ◌*◌, ◌-◌, ◌/◌, ◌≤◌, ◌≡◌, refl, sym, ap, ◌∙◌, Bool, true, false, not, true≢false, List, [], ◌∷◌, ◌++◌, append_assoc, append-nil, arith, leb, length, take, drop, length-append, length-drop, take-append-drop, take_at, drop_at, drop-drop, length-take-le, Option, Some, None}
+use lib.Seq.{take-nil}
+use borrow.Author.Tests.{le-leb, leb-true, leb-false, not-true, not-false}
+use Rattle.rules.specs.declared.Call.{Call}
 use Rattle.rules.specs.declared.Table.{Table}
 use Rattle.rules.specs.declared.Answer.{Answer}
 use Rattle.rules.specs.declared.Done.{Done}
 use Rattle.rules.specs.Numbers.{store_size}
-use Rattle.rules.specs.Words.{is_zero}
 use Rattle.rules.specs.Validity.{valid}
-use Rattle.rules.proofs.Bools.{and_left, and_right, not_intro}
 use Rattle.theorems.proofs.Kept.{store_kept}
 use Rattle.tables.specs.declared.front.Front.{Front}
+use Rattle.tables.specs.declared.front.Store.{Store}
 use Rattle.tables.specs.declared.front.FrontDone.{FrontDone}
-use Rattle.tables.specs.Fronts.{whole, front_of}
-use Rattle.frames.specs.declared.call.Request.{Request}
+use Rattle.tables.specs.Fronts.{whole, front_of, store_of}
 use Rattle.frames.specs.Answers.{answer_length, answer_line, placed}
 use Rattle.frames.proofs.Written.{answer_length_lem}
 use Rattle.bench_lines.specs.declared.start.Standing.{Standing}
+use Rattle.bench_lines.specs.declared.first.FirstLine.{FirstLine}
 use Rattle.bench_lines.specs.declared.later.LaterLine.{LaterLine}
 use Rattle.bench_lines.specs.Start.{standing}
 use Rattle.bench_lines.specs.Steps.{malformed, request_done}
@@ -31,7 +25,7 @@ use Rattle.bench_lines.specs.Places.{first_line_at, later_line_at}
 use Rattle.bench_lines.proofs.Assuming.{still_known}
 use Rattle.session.specs.declared.feed.Progress.{Progress}
 use Rattle.session.specs.Lines.{cut, after, answers_to, standing_after}
-use Rattle.session.specs.Feed.{fitting, taken, ahead, over, progress_of, progress_after, later_progress, later_out, answers_first, first_progress, first_out, feed_progress, piece_answers}
+use Rattle.session.specs.Feed.{fitting, taken, ahead, over, progress_of, progress_after, later_progress, later_out, answers_first, come_first, written_first, first_progress, first_out, feed_progress, piece_answers}
 use Rattle.session.proofs.NextLines.{Took, first_took, first_none, later_took, later_none}
 
 pub answers_length : (s : Standing) (lines : List (List ℕ)) → length (answers_to s lines) ≡ answer_length * length lines
@@ -88,23 +82,21 @@ module _ {p : Progress} {said old input : List ℕ} {s : Standing} {at written l
     more_long = rw more (simp (length-append, length-take-le written out (omega arith), answer_length_lem, length-drop) (omega arith))
 
   -- `new` is what the answer's writing left
-  pub going_on : (d : Done) (next : ℕ) → Took s input at d next → 0 < left → (new : List ℕ) → new ≡ placed written (answer_line d.answer) out
-      → Going p said old input (standing d.table true) next (written + answer_length) (left - 1) new
+  pub going_on : (d : Done) (next : ℕ) → Took s input at d next → (fewer : ℕ) → fewer + 1 ≡ left
+      → (new : List ℕ) → new ≡ placed written (answer_line d.answer) out
+      → Going p said old input (standing d.table true) next (written + answer_length) fewer new
   unfolding answers_to standing_after taken
-  going_on d next k h new is = rw is (go left refl)
+  going_on d next k m h new is = rw is go
     where
-      go : (m : ℕ) → left ≡ m
-          → Going p said old input (standing d.table true) next (written + answer_length) (left - 1) (placed written (answer_line d.answer) out)
-      go zero e = absurd (omega arith)
-      go (suc m) e =
-          let one : left - 1 ≡ m = omega arith in
+      go : Going p said old input (standing d.table true) next (written + answer_length) m (placed written (answer_line d.answer) out)
+      go =
+          let one : left ≡ suc m = omega arith in
           let rest = ahead input next m in
           let fits : written + answer_length ≤ length out = omega (arith, g.room, g.size) in
-          let lines : ahead input at left ≡ k.line ∷ rest = rw (e, k.first.ended) in
+          let lines : ahead input at left ≡ k.line ∷ rest = rw (one, k.first.ended) in
           let place : next + taken rest ≡ at + (suc (length k.line) + taken rest) = omega (arith, k.first.moved) in
           let count : written + answer_length + answer_length * length rest ≡ written + answer_length * suc (length rest) = omega arith in
-          rw one
-          (record {
+          record {
             comes_to = rw (place, count, k.did) (rw lines at g.comes_to);
             answers =
                 rw (more_front d.answer fits)
@@ -114,7 +106,7 @@ module _ {p : Progress} {said old input : List ℕ} {s : Standing} {at written l
                 ∙ drop-drop answer_length written old;
             room = omega (arith, g.room);
             size = more_long d.answer fits ∙ g.size;
-          })
+          }
 
   -- ---- nothing is ahead
 
@@ -142,8 +134,10 @@ ahead_no_room input at (suc left) h = absurd (omega arith)
 ahead_no_line : (input : List ℕ) (at left : ℕ) → (cut (drop at input)).lines ≡ [] → ahead input at left ≡ []
 ahead_no_line input at left h = rw h (take-nil left)
 
-pub later_no_line : (input : List ℕ) (at left : ℕ) (r : LaterLine) → r ≡ later_line_at input at → r.next ≡ 0 → ahead input at left ≡ []
-later_no_line input at left r e h = ahead_no_line input at left (later_none input at r e h)
+pub later_no_line : (input : List ℕ) (at left : ℕ) (o : Option LaterLine) → o ≡ later_line_at input at → ((line : LaterLine) → o ≡ Some line → ⊥)
+    → ahead input at left ≡ []
+later_no_line input at left None e n = ahead_no_line input at left (later_none input at e)
+later_no_line input at left (Some line) e n = absurd (n line refl)
 
 -- ---- a whole piece: its first line, and the later ones
 
@@ -160,49 +154,47 @@ module _ (s : Standing) (input old : List ℕ) where
   unfolding feed_progress piece_answers
   answers_counted = let many = answers_length s (fitting (length old) input) in omega arith
 
-  -- by whether the first line is answered: o is how far it came, and `new` what its answer left
-  abbrev came : Bool → Progress
-  came b = cond b (progress_of (first_line_at input).done.table true (first_line_at input).next answer_length) (progress_of s.table s.begun 0 0)
-
-  abbrev wrote : Bool → List ℕ
-  wrote b = cond b (placed 0 (answer_line (first_line_at input).done.answer) old) old
-
-  first_goes : (b : Bool) → answers_first s (length old) input ≡ b → (o : Progress) (new : List ℕ) → o ≡ came b → new ≡ wrote b
-      → GoingOn s input old o.standing o.next o.written ((length new - o.written) / answer_length) new
+  -- what is so where the first line is answered, and where it is not though the session stands before it
+  line_first : (line : FirstLine) → answers_first s (length old) input ≡ Some line
+      → (s.begun ≡ false) × ((answer_length ≤ length old) × (Some line ≡ first_line_at input))
   unfolding answers_first
-  first_goes true b o new e k =
-      let rest = and_right (not s.begun) _ b in
-      let before = not-true s.begun (and_left (not s.begun) _ b) in
-      let room = leb-true answer_length (length old) (and_left (leb answer_length (length old)) _ rest) in
-      let ended = eqb-false (first_line_at input).next 0 (not-true _ (and_right (leb answer_length (length old)) _ rest)) in
-      let took = first_took s before input (first_line_at input) refl ended in
-      let first = going_on (going_start s input old) (first_line_at input).done (first_line_at input).next took (omega arith) new k in
+  line_first line e = go s.begun refl (leb answer_length (length old)) refl
+    where
+      go : (b : Bool) → s.begun ≡ b → (r : Bool) → leb answer_length (length old) ≡ r
+          → (s.begun ≡ false) × ((answer_length ≤ length old) × (Some line ≡ first_line_at input))
+      go true b r l = absurd (cc (rw b at e))
+      go false b true l = (b, (leb-true answer_length (length old) l, sym (rw (b, l) at e)))
+      go false b false l = absurd (cc (rw (b, l) at e))
+
+  none_first : answers_first s (length old) input ≡ None → s.begun ≡ false → ahead input 0 (length old / answer_length) ≡ []
+  unfolding answers_first
+  none_first e b = go (leb answer_length (length old)) refl
+    where
+      go : (r : Bool) → leb answer_length (length old) ≡ r → ahead input 0 (length old / answer_length) ≡ []
+      go true l = ahead_no_line input 0 (length old / answer_length) (first_none input (sym (rw (b, l) at e)))
+      go false l = let short = leb-false answer_length (length old) l in ahead_no_room input 0 (length old / answer_length) (omega arith)
+
+  -- by whether the first line is answered: o is how far it came, and `new` what its answer left
+  first_goes : (a : Option FirstLine) → answers_first s (length old) input ≡ a → (o : Progress) (new : List ℕ) → o ≡ come_first s a
+      → new ≡ written_first a old → GoingOn s input old o.standing o.next o.written ((length new - o.written) / answer_length) new
+  first_goes (Some line) a o new e k =
+      let is = line_first line a in
+      let room = is.1.0 in
+      let first = going_on (going_start s input old) line.done line.next (first_took s is.0 input line is.1.1) (length old / answer_length - 1) (omega arith) new k in
       let less : (length new - answer_length) / answer_length ≡ length old / answer_length - 1 = omega (arith, first.size) in
       rw (e, less) first
-  first_goes false b o new e k =
+  first_goes None a o new e k =
       let same : (length old - 0) / answer_length ≡ length old / answer_length = omega arith in
       rw (e, k, same) (going_start s input old)
 
   -- where the session still stands before its first line, nothing is ahead
-  none_ahead : (b : Bool) → answers_first s (length old) input ≡ b → (o : Progress) (new : List ℕ) → o ≡ came b → new ≡ wrote b
-      → o.standing.begun ≡ false → ahead input o.next ((length new - o.written) / answer_length) ≡ []
-  unfolding answers_first
-  none_ahead true b o new e k n = absurd (true≢false (sym (ap (λ x. x.standing.begun) e) ∙ n))
-  none_ahead false b o new e k n =
+  none_ahead : (a : Option FirstLine) → answers_first s (length old) input ≡ a → (o : Progress) (new : List ℕ) → o ≡ come_first s a
+      → new ≡ written_first a old → o.standing.begun ≡ false → ahead input o.next ((length new - o.written) / answer_length) ≡ []
+  none_ahead (Some line) a o new e k n = absurd (true≢false (sym (ap (λ x. x.standing.begun) e) ∙ n))
+  none_ahead None a o new e k n =
       let before : s.begun ≡ false = sym (ap (λ x. x.standing.begun) e) ∙ n in
       let same : (length old - 0) / answer_length ≡ length old / answer_length = omega arith in
-      rw (e, k, same) (no_line (leb answer_length (length old)) refl (second_false (not s.begun) _ (not_intro _ before) b))
-    where
-      second_false : (a b : Bool) → a ≡ true → (a && b) ≡ false → b ≡ false
-      second_false true b e h = h
-      second_false false b e h = absurd (true≢false (sym e))
-
-      no_line : (b : Bool) → leb answer_length (length old) ≡ b → (b && not (is_zero (first_line_at input).next)) ≡ false
-          → ahead input 0 (length old / answer_length) ≡ []
-      no_line true r h =
-          let none = eqb-true (first_line_at input).next 0 (not-false _ h) in
-          ahead_no_line input 0 (length old / answer_length) (first_none input (first_line_at input) refl none)
-      no_line false r h = let short = leb-false answer_length (length old) r in ahead_no_room input 0 (length old / answer_length) (omega arith)
+      rw (e, k, same) (none_first a before)
 
   -- as the code has it
   module _ (o : Progress) (new : List ℕ) (e : o ≡ first_progress s (length old) input) (k : new ≡ first_out s input old) where
@@ -242,39 +234,35 @@ pub record Known (known : Bool) (f : Front) (es cs : List ℕ) : Type 0 where
   pub sizes : (length es ≡ store_size) × (length cs ≡ store_size)
   pub right : known ≡ valid (whole f es cs)
 
-request_long : (t : Table) (r : Request) → (length t.element ≡ store_size) × (length t.criterion ≡ store_size)
+request_long : (t : Table) (r : Option Call) → (length t.element ≡ store_size) × (length t.criterion ≡ store_size)
     → (length (request_done t r).table.element ≡ store_size) × (length (request_done t r).table.criterion ≡ store_size)
 unfolding request_done malformed
-request_long t r l = go r.good refl
-  where
-    go : (b : Bool) → r.good ≡ b
-        → (length (request_done t r).table.element ≡ store_size) × (length (request_done t r).table.criterion ≡ store_size)
-    go true e = rw e (store_kept t r.call l)
-    go false e = rw e l
+request_long t (Some call) l = store_kept t call l
+request_long t None l = l
 
 -- d, es' and cs' are what the line with the request r did to it
-abbrev pub Did : Front → List ℕ → List ℕ → Request → FrontDone → List ℕ → List ℕ → Type 0
+abbrev pub Did : Front → List ℕ → List ℕ → Option Call → FrontDone → List ℕ → List ℕ → Type 0
 Did f es cs = IsDone (whole f es cs)
 
-module _ {f : Front} {es cs : List ℕ} (r : Request) {d : FrontDone} {es' cs' : List ℕ} (did : Did f es cs r d es' cs') where
+module _ {f : Front} {es cs : List ℕ} (r : Option Call) {d : FrontDone} {es' cs' : List ℕ} (did : Did f es cs r d es' cs') where
   pub known_after : {known : Bool} → Known known f es cs → Known known d.front es' cs'
   known_after {known} k =
       record { sizes = rw (did.1.0, did.1.1) (request_long (whole f es cs) r k.sizes); right = still_known known (whole f es cs) r k.right did }
 
 pub going_lent : {p : Progress} {said old input : List ℕ} {f : Front} {es cs : List ℕ} {at written left : ℕ} {out : List ℕ}
     → Going p said old input (standing (whole f es cs) true) at written left out
-    → (l : LaterLine) → l ≡ later_line_at input at → (l.next ≡ 0 → ⊥) → 0 < left
+    → (l : LaterLine) → Some l ≡ later_line_at input at → (fewer : ℕ) → fewer + 1 ≡ left
     → {d : FrontDone} {es' cs' : List ℕ} → Did f es cs l.request d es' cs'
     → (new : List ℕ) → new ≡ placed written (answer_line d.answer) out
-    → Going p said old input (standing (whole d.front es' cs') true) l.next (written + answer_length) (left - 1) new
-going_lent {input = input} {f = f} {es = es} {cs = cs} {at = at} g l is n h did new k =
+    → Going p said old input (standing (whole d.front es' cs') true) l.next (written + answer_length) fewer new
+going_lent {input = input} {f = f} {es = es} {cs = cs} {at = at} g l is fewer h did new k =
     let done = request_done (whole f es cs) l.request in
-    let took = later_took (whole f es cs) input at l is n in
-    rw (did.1.0, did.1.1, did.0) (going_on g done l.next took h new (rw did.0 at k))
+    let took = later_took (whole f es cs) input at l is in
+    rw (did.1.0, did.1.1, did.0) (going_on g done l.next took fewer h new (rw did.0 at k))
 
 -- a table in its parts, where the loop begins
-pub whole_again : (t : Table) (f : Front) → f ≡ front_of t → whole f t.element t.criterion ≡ t
-whole_again t f e = rw e refl
+pub whole_again : (t : Table) (f : Front) (s : Store) → f ≡ front_of t → s ≡ store_of t → whole f s.element s.criterion ≡ t
+whole_again t f s e k = rw (e, k) refl
 
 -- ---- where the loop ends, the later lines are answered
 

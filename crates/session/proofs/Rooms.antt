@@ -1,12 +1,5 @@
 -- Laws of room for an answer to every byte: it is room for all lines.
-use Prim.Native.Nat.{ℕ, suc, ◌+◌, ◌*◌, ◌-◌, ◌/◌, ◌≤◌}
-use mathlib.Core.Path.{◌≡◌, refl, sym, ap}
-use mathlib.Core.Bool.{Bool, true, false, cond}
-use mathlib.Core.List.{List, [], ◌∷◌}
-use native.Mathlib.Omega.{arith}
-use lib.Dec.{eqb, ltb}
-use lib.ListN.{length, take, drop, length-take}
-use lib.Seq.{take_all}
+use Rattle.std.proofs.Common.{ℕ, suc, ◌+◌, ◌*◌, ◌-◌, ◌/◌, ◌≤◌, ◌≡◌, refl, sym, ap, Bool, true, false, cond, List, [], ◌∷◌, arith, eqb, ltb, length, take, drop, length-take, take_all}
 use borrow.Author.Tests.{ltb-true}
 use Rattle.lines.specs.Ends.{line_feed}
 use Rattle.frames.specs.Answers.{answer_length}

@@ -1,9 +1,9 @@
 -- The ended lines of a piece of the input, answered into a lent buffer: as many as it has room for.
-use Rattle.std.specs.Prelude.{ℕ, suc, ◌+◌, ◌*◌, ◌-◌, ◌/◌, Bool, true, cond, not, ◌&&◌, List, [], ◌∷◌, ◌++◌, leb, length, take, drop}
+use Rattle.std.specs.Prelude.{ℕ, suc, ◌+◌, ◌*◌, ◌-◌, ◌/◌, Bool, true, cond, not, ◌&&◌, List, [], ◌∷◌, ◌++◌, leb, length, take, drop, Option, Some, None}
 use Rattle.rules.specs.declared.Table.{Table}
-use Rattle.rules.specs.Words.{is_zero}
 use Rattle.frames.specs.Answers.{answer_length, answer_line, placed}
 use Rattle.bench_lines.specs.declared.start.Standing.{Standing}
+use Rattle.bench_lines.specs.declared.first.FirstLine.{FirstLine}
 use Rattle.bench_lines.specs.Start.{standing}
 use Rattle.bench_lines.specs.Places.{first_line_at}
 use Rattle.session.specs.declared.feed.Progress.{Progress}
@@ -37,19 +37,24 @@ abbrev pub progress_after : Standing → ℕ → ℕ → List (List ℕ) → Pro
 progress_after s at written lines =
     record { standing = standing_after s lines; next = at + taken lines; written = written + answer_length * length lines }
 
--- the first line is answered: the session stands before it, there is room for its answer, and it is ended
-unfoldable pub answers_first : Standing → ℕ → List ℕ → Bool
-answers_first s room input = not s.begun && (leb answer_length room && not (is_zero (first_line_at input).next))
+-- the first line, where it is answered: the session stands before it, there is room for its answer, and it is ended
+unfoldable pub answers_first : Standing → ℕ → List ℕ → Option FirstLine
+answers_first s room input = cond (not s.begun && leb answer_length room) (first_line_at input) None
+
+-- how far that comes, and what it leaves of the buffer
+abbrev pub come_first : Standing → Option FirstLine → Progress
+come_first s (Some line) = progress_of line.done.table true line.next answer_length
+come_first s None = progress_of s.table s.begun 0 0
+
+abbrev pub written_first : Option FirstLine → List ℕ → List ℕ
+written_first (Some line) out = placed 0 (answer_line line.done.answer) out
+written_first None out = out
 
 unfoldable pub first_progress : Standing → ℕ → List ℕ → Progress
-first_progress s room input =
-    cond (answers_first s room input)
-    (progress_of (first_line_at input).done.table true (first_line_at input).next answer_length)
-    (progress_of s.table s.begun 0 0)
+first_progress s room input = come_first s (answers_first s room input)
 
 unfoldable pub first_out : Standing → List ℕ → List ℕ → List ℕ
-first_out s input out =
-    cond (answers_first s (length out) input) (placed 0 (answer_line (first_line_at input).done.answer) out) out
+first_out s input out = written_first (answers_first s (length out) input) out
 
 -- the lines from a place on, as many as there may be
 abbrev pub ahead : List ℕ → ℕ → ℕ → List (List ℕ)

@@ -11,15 +11,9 @@ pub fn finish(s: Standing, rest: &[u8], out: &mut [u8]) -> usize
     ensures result { result ≡ ending_length s rest.now (length out.old) }
     ensures written { out.new ≡ placed 0 (ending s rest.now) out.old }
 {
-    let nothing = rest.len() == 0;
-    if nothing {
+    if rest.is_empty() || out.len() < ANSWER {
         return 0;
     }
-    let narrow = out.len() < ANSWER;
-    if narrow {
-        return 0;
-    }
-    let t = s.table;
-    put_answer(out, 0, malformed_answer(t.tasks, t.elected));
+    put_answer(out, 0, malformed_answer(s.table.tasks, s.table.elected));
     ANSWER
 }

@@ -6,7 +6,7 @@ ghost use Rattle.session.specs.Feed.{progress_of, first_progress, first_out, lat
 use bench_lines::{Standing, first_line_at, later_line_at, line_assuming};
 use frames::{ANSWER, put_answer};
 use rules::Table;
-use tables::{front_of, table_of};
+use tables::{front_of, store_of, table_of};
 use validity::front_valid;
 
 // How far the lines of a piece have come: the place behind the last of them, and how many bytes of answers were written.
@@ -21,12 +21,9 @@ fn progress_of(t: Table, begun: bool, next: usize, written: usize) -> Progress
     ensures { result ≡ progress_of t begun next written }
 {
     Progress {
-        standing: Standing {
-            table: t,
-            begun: begun,
-        },
-        next: next,
-        written: written,
+        standing: Standing { table: t, begun },
+        next,
+        written,
     }
 }
 
@@ -34,10 +31,7 @@ fn progress_of(t: Table, begun: bool, next: usize, written: usize) -> Progress
 fn answers_left(room: usize, written: usize) -> usize
     ensures { result ≡ (room - written) / answer_length }
 {
-    if room < written {
-        return 0;
-    }
-    (room - written) / ANSWER
+    room.saturating_sub(written) / ANSWER
 }
 
 // Answers the first line, where the session stands before it, the line is ended and there is room.
@@ -52,15 +46,13 @@ fn first_answered(s: Standing, input: &[u8], out: &mut [u8]) -> Progress
     if out.len() < ANSWER {
         return progress_of(t, false, 0, 0);
     }
-    let r = first_line_at(input);
-    let next = r.next;
-    if next == 0 {
-        return progress_of(t, false, 0, 0);
+    match first_line_at(input) {
+        None => progress_of(t, false, 0, 0),
+        Some(line) => {
+            put_answer(out, 0, line.done.answer);
+            progress_of(line.done.table, true, line.next, ANSWER)
+        }
     }
-    let d = r.done;
-    put_answer(out, 0, d.answer);
-    let u = d.table;
-    progress_of(u, true, next, ANSWER)
 }
 
 // Answers the later lines from `at` on, as many as there is room for behind the `written` bytes. The table's store stays where it is, lent to
@@ -70,26 +62,20 @@ fn feed_later(t: Table, input: &[u8], mut at: usize, mut written: usize, out: &m
     ensures result { result ≡ later_progress t input.now at written (length out.old) }
     ensures answers { out.new ≡ later_out t input.now at written out.old }
 {
-    let mut element = t.element;
-    let mut criterion = t.criterion;
     let mut f = front_of(t);
-    let valid = front_valid(f, &element, &criterion);
-    let mut left = answers_left(out.len(), written);
-    while 0 < left {
-        let line = later_line_at(input, at);
-        let next = line.next;
-        if next == 0 {
-            return progress_of(table_of(f, element, criterion), true, at, written);
-        }
-        let r = line.request;
-        let d = line_assuming(f, valid, r, &mut element, &mut criterion);
+    let mut store = store_of(t);
+    let valid = front_valid(&f, &store);
+    for _ in 0..answers_left(out.len(), written) {
+        let Some(line) = later_line_at(input, at) else {
+            break;
+        };
+        let d = line_assuming(f, valid, line.request, &mut store);
         put_answer(out, written, d.answer);
         f = d.front;
-        at = next;
-        written = written + ANSWER;
-        left = left - 1;
+        at = line.next;
+        written += ANSWER;
     }
-    progress_of(table_of(f, element, criterion), true, at, written)
+    progress_of(table_of(f, store), true, at, written)
 }
 
 // Answers as many lines as `out` has room for.
@@ -98,10 +84,8 @@ pub(crate) fn feed(s: Standing, input: &[u8], out: &mut [u8]) -> Progress
     ensures answers { out.new ≡ over (piece_answers s (length out.old) input.now) out.old }
 {
     let p = first_answered(s, input, out);
-    let stands = p.standing;
-    if !stands.begun {
+    if !p.standing.begun {
         return p;
     }
-    let t = stands.table;
-    feed_later(t, input, p.next, p.written, out)
+    feed_later(p.standing.table, input, p.next, p.written, out)
 }

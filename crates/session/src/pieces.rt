@@ -9,7 +9,6 @@ use crate::feed::feed;
 use bench_lines::Standing;
 use frames::ANSWER;
 use lines::LONGEST;
-use tables::lesser;
 
 // The most bytes that are kept of a line that goes on in the next piece: one more than a line may have already tells that it is too long.
 pub const KEPT: usize = LONGEST + 1;
@@ -32,7 +31,7 @@ fn bytes_kept(rest: usize, room: usize, written: usize) -> usize
     if room - written < ANSWER {
         return rest;
     }
-    lesser(rest, KEPT)
+    rest.min(KEPT)
 }
 
 // Moves the n bytes from `from` on to the front.
@@ -40,9 +39,7 @@ fn to_front(buffer: &mut [u8], from: usize, n: usize)
     requires { from + n ≤ length buffer.old }
     ensures { buffer.new ≡ over (take n (drop from buffer.old)) buffer.old }
 {
-    for i in 0..n {
-        buffer[i] = buffer[from + i];
-    }
+    buffer.copy_within(from..from + n, 0);
 }
 
 // Answers the ended lines of the buffer's first `end` bytes, as many as `out` has room for, and moves what is left to its front: lines that
@@ -52,15 +49,14 @@ pub fn piece(s: Standing, buffer: &mut [u8], end: usize, out: &mut [u8]) -> Piec
     ensures left { buffer.new ≡ over (piece_left (length out.old) (take end buffer.old)) buffer.old }
     ensures answers { out.new ≡ over (piece_answers s (length out.old) (take end buffer.old)) out.old }
 {
-    let to = lesser(end, buffer.len());
+    let to = end.min(buffer.len());
     let room = out.len();
     let p = feed(s, &buffer[0..to], out);
     let from = p.next;
     let n = bytes_kept(to - from, room, p.written);
     to_front(buffer, from, n);
-    let standing = p.standing;
     PieceEnd {
-        standing: standing,
+        standing: p.standing,
         kept: n,
         written: p.written,
     }

@@ -1,13 +1,6 @@
 -- A fresh array filled from a list: what it holds as the loop goes on, and at its end; over any room.
-use Prim.Native.Nat.{ℕ, suc, ◌+◌, ◌-◌, ◌<◌, ◌≤◌}
-use mathlib.Core.Path.{◌≡◌, sym, ◌∙◌}
-use mathlib.Core.List.{List, [], ◌∷◌, ◌++◌, append_assoc}
-use native.Mathlib.Omega.{arith}
-use native.Mathlib.Numerals.{add-one}
-use lib.ListN.{get_or, set, length, take, replicate}
-use lib.Seq.{take-suc, length-take-le, set_at}
-use mathlib.Core.Bool.{Bool}
-use lib.Dec.{ltb}
+use Rattle.std.proofs.Common.{ℕ, suc, ◌+◌, ◌-◌, ◌<◌, ◌≤◌, ◌≡◌, sym, ◌∙◌, List, [], ◌∷◌, ◌++◌, append_assoc, arith, add-one, get_or, set, length, take, replicate, take-suc, length-take-le, Bool, ltb}
+use lib.Seq.{set_at}
 use Rattle.rules.specs.Numbers.{priority_end}
 use Rattle.rules.specs.Words.{padded}
 

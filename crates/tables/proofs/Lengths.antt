@@ -1,6 +1,5 @@
 -- The lengths that the types of a front's columns give: a proof finds them once, where its function begins.
-use mathlib.Core.Path.{◌≡◌}
-use lib.ListN.{length}
+use Rattle.std.proofs.Common.{◌≡◌, length}
 use Rattle.rules.specs.Numbers.{task_room, region_room, queue_room}
 use Rattle.tables.specs.declared.front.Front.{Front}
 

@@ -3,6 +3,7 @@ use Rattle.std.specs.Prelude.{ℕ, List, []}
 use Rattle.rules.specs.declared.Table.{Table}
 use Rattle.rules.specs.declared.Done.{Done}
 use Rattle.tables.specs.declared.front.Front.{Front}
+use Rattle.tables.specs.declared.front.Store.{Store}
 use Rattle.tables.specs.declared.front.FrontDone.{FrontDone}
 
 -- the table of a front and the places of its queues
@@ -51,6 +52,9 @@ front_of t =
       ticks = t.ticks;
       timers = t.timers;
     }
+
+abbrev pub store_of : Table → Store
+store_of t = record { element = t.element; criterion = t.criterion }
 
 abbrev pub front_done : Done → FrontDone
 front_done d = record { front = front_of d.table; answer = d.answer }

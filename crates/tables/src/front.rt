@@ -1,6 +1,6 @@
 // A table in two parts, its front and its store: taken apart, and put together again.
 ghost use Rattle.std.specs.Prelude.{◌≡◌};
-ghost use Rattle.tables.specs.Fronts.{whole, front_of};
+ghost use Rattle.tables.specs.Fronts.{whole, front_of, store_of};
 
 use rules::{Answer, QUEUES, REGIONS, STORE, TASKS, TIMERS, Table, Timer};
 
@@ -26,6 +26,13 @@ pub struct Front {
     pub timers: [Timer; TIMERS],
 }
 
+// The places of all queues: what a function is lent that takes an element out of a queue or adds one. Queue q has places 64 q to 64 q + 63.
+#[derive(Clone, Copy)]
+pub struct Store {
+    pub element: [u32; STORE],
+    pub criterion: [u8; STORE],
+}
+
 // After a call on a lent store: the rest of the table, and the answer.
 #[derive(Clone, Copy)]
 pub struct FrontDone {
@@ -36,73 +43,100 @@ pub struct FrontDone {
 pub fn front_of(t: Table) -> Front
     ensures { result ≡ front_of t }
 {
-    let priority = t.priority;
-    let state = t.state;
-    let arrived = t.arrived;
-    let list = t.list;
-    let operator = t.operator;
-    let awaits = t.awaits;
-    let holder = t.holder;
-    let entries = t.entries;
-    let opened = t.opened;
-    let bound = t.bound;
-    let lengths = t.length;
-    let timers = t.timers;
+    let Table {
+        tasks,
+        regions,
+        queues,
+        elected,
+        priority,
+        state,
+        arrived,
+        list,
+        operator,
+        awaits,
+        holder,
+        entries,
+        opened,
+        bound,
+        length,
+        ticks,
+        timers,
+        ..
+    } = t;
     Front {
-        tasks: t.tasks,
-        regions: t.regions,
-        queues: t.queues,
-        elected: t.elected,
-        priority: priority,
-        state: state,
-        arrived: arrived,
-        list: list,
-        operator: operator,
-        awaits: awaits,
-        holder: holder,
-        entries: entries,
-        opened: opened,
-        bound: bound,
-        length: lengths,
-        ticks: t.ticks,
-        timers: timers,
+        tasks,
+        regions,
+        queues,
+        elected,
+        priority,
+        state,
+        arrived,
+        list,
+        operator,
+        awaits,
+        holder,
+        entries,
+        opened,
+        bound,
+        length,
+        ticks,
+        timers,
     }
 }
 
-pub fn table_of(f: Front, element: [u32; STORE], criterion: [u8; STORE]) -> Table
-    ensures { result ≡ whole f element criterion }
+pub fn store_of(t: Table) -> Store
+    ensures { result ≡ store_of t }
 {
-    let priority = f.priority;
-    let state = f.state;
-    let arrived = f.arrived;
-    let list = f.list;
-    let operator = f.operator;
-    let awaits = f.awaits;
-    let holder = f.holder;
-    let entries = f.entries;
-    let opened = f.opened;
-    let bound = f.bound;
-    let lengths = f.length;
-    let timers = f.timers;
+    let Table {
+        element,
+        criterion,
+        ..
+    } = t;
+    Store { element, criterion }
+}
+
+pub fn table_of(f: Front, s: Store) -> Table
+    ensures { result ≡ whole f s.element s.criterion }
+{
+    let Front {
+        tasks,
+        regions,
+        queues,
+        elected,
+        priority,
+        state,
+        arrived,
+        list,
+        operator,
+        awaits,
+        holder,
+        entries,
+        opened,
+        bound,
+        length,
+        ticks,
+        timers,
+    } = f;
+    let Store { element, criterion } = s;
     Table {
-        tasks: f.tasks,
-        regions: f.regions,
-        queues: f.queues,
-        elected: f.elected,
-        priority: priority,
-        state: state,
-        arrived: arrived,
-        list: list,
-        operator: operator,
-        awaits: awaits,
-        holder: holder,
-        entries: entries,
-        opened: opened,
-        bound: bound,
-        length: lengths,
-        element: element,
-        criterion: criterion,
-        ticks: f.ticks,
-        timers: timers,
+        tasks,
+        regions,
+        queues,
+        elected,
+        priority,
+        state,
+        arrived,
+        list,
+        operator,
+        awaits,
+        holder,
+        entries,
+        opened,
+        bound,
+        length,
+        element,
+        criterion,
+        ticks,
+        timers,
     }
 }

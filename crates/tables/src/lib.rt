@@ -8,5 +8,5 @@ mod lookup;
 
 pub use configuration::fresh;
 pub use counts::counts_right;
-pub use front::{Front, FrontDone, front_of, table_of};
-pub use lookup::{byte_at, lesser};
+pub use front::{Front, FrontDone, Store, front_of, store_of, table_of};
+pub use lookup::byte_at;

@@ -1,12 +1,6 @@
 -- The tasks past the count, and all of them: both tests of every task are the definition's.
-use Prim.Native.Nat.{ℕ, zero, suc, ◌+◌, ◌≤◌, max}
-use mathlib.Core.Path.{◌≡◌, refl, sym, ap, ◌∙◌}
-use mathlib.Core.Bool.{Bool, true, false, cond, ◌&&◌, ◌||◌, and-true}
-use mathlib.Core.List.{List}
-use native.Mathlib.Omega.{arith}
-use lib.Dec.{ltb, leb}
-use lib.ListN.{get_or}
-use borrow.Author.Tests.{eqb-true, le-ltb, leb-true, leb-false}
+use Rattle.std.proofs.Common.{ℕ, zero, suc, ◌+◌, ◌≤◌, max, ◌≡◌, refl, sym, ap, ◌∙◌, Bool, true, false, cond, ◌&&◌, ◌||◌, List, arith, ltb, leb, get_or, eqb-true, le-ltb, leb-true, leb-false}
+use mathlib.Core.Bool.{and-true}
 use Rattle.rules.specs.Numbers.{task_room}
 use Rattle.rules.specs.Words.{is_zero, all, below, past}
 use Rattle.rules.proofs.Bools.{and_left, and_right, and_swap, same_test, ◌&◌, given, shown}

@@ -1,12 +1,7 @@
 -- SIGNAL: one bit is added to the events, and the task wakes or stays; and the condition it waits for.
-use Prim.Native.Nat.{ℕ, ◌*◌, ◌%◌, ◌^◌, ◌<◌}
-use mathlib.Core.Path.{◌≡◌, refl}
-use mathlib.Core.Bool.{Bool, true, false, cond, not, ◌&&◌, ◌||◌, or-false}
-use native.Mathlib.Omega.{arith}
-use native.Mathlib.Nat.{one-mul, mod-eq_of_lt}
-use lib.Dec.{eqb}
+use Rattle.std.proofs.Common.{ℕ, ◌*◌, ◌%◌, ◌^◌, ◌<◌, ◌≡◌, refl, Bool, true, false, cond, not, ◌&&◌, ◌||◌, arith, one-mul, mod-eq_of_lt, eqb, bit_or}
+use mathlib.Core.Bool.{or-false}
 use lib.Pow.{pow-lt}
-use lib.Bits.{bit_or}
 use Rattle.rules.specs.declared.Task.{Task}
 use Rattle.rules.specs.Numbers.{list_end, event_end}
 use Rattle.rules.specs.Events.{met, arrive}

@@ -1,10 +1,6 @@
 -- One task: the test without branches is the test by state.
-use Prim.Native.Nat.{ℕ, zero, suc, ◌<◌}
-use mathlib.Core.Path.{◌≡◌, refl, ap, ◌∙◌}
-use mathlib.Core.Bool.{Bool, true, false, not, ◌&&◌, ◌||◌, or-false, and-true, and-false, false≢true}
-use native.Mathlib.Omega.{arith}
-use lib.Dec.{eqb, ltb, leb}
-use borrow.Author.Tests.{eqb-true, ne_eqb, lt-ltb, le-leb, leb-true, ltb-true}
+use Rattle.std.proofs.Common.{ℕ, zero, suc, ◌<◌, ◌≡◌, refl, ap, ◌∙◌, Bool, true, false, not, ◌&&◌, ◌||◌, arith, eqb, ltb, leb, eqb-true, ne_eqb, lt-ltb, le-leb, leb-true, ltb-true}
+use mathlib.Core.Bool.{or-false, and-true, and-false, false≢true}
 use Rattle.rules.specs.Numbers.{priority_end, list_end}
 use Rattle.rules.specs.Words.{is_zero}
 use Rattle.rules.specs.Events.{met}

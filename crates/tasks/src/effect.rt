@@ -5,23 +5,21 @@ ghost use Rattle.tasks.specs.Effects.{target, task_after};
 
 use crate::condition::met_by;
 use crate::signal::signalled_by;
-use rules::{CLEAR, Call, END, READY, SIGNAL, START, STOPPED, Task, WAIT, WAITING};
+use rules::{Call, Operation, READY, STOPPED, Task, WAITING};
 
 // Which task the call changes: the one that START, STOP and SIGNAL name, else the caller.
 #[tactic(auto, unfolding(crate::specs::Effects::target))]
 pub fn target_of(k: Call) -> u32
     ensures { result ≡ target k }
 {
-    let operation = k.operation;
-    if operation < END {
-        return k.a;
+    match Operation::try_from(k.operation) {
+        Ok(Operation::Start | Operation::Stop) => k.a,
+        Ok(Operation::Signal) => k.b,
+        _ => u32::from(k.caller),
     }
-    if operation == SIGNAL {
-        return k.b;
-    }
-    k.caller as u32
 }
 
+#[tactic(auto, unfolding(rules::specs::Tasks::waited))]
 fn waited_by(list: u16, operator: u8, r: Task) -> Task
     ensures { result ≡ waited list operator r }
 {
@@ -30,9 +28,9 @@ fn waited_by(list: u16, operator: u8, r: Task) -> Task
     }
     Task {
         state: WAITING,
-        arrived: r.arrived,
         list: list,
         operator: operator,
+        ..r
     }
 }
 
@@ -40,34 +38,34 @@ fn cleared_by(list: u16, r: Task) -> Task
     ensures { result ≡ as_cleared list r }
 {
     Task {
-        state: r.state,
         arrived: r.arrived - (r.arrived & list),
-        list: r.list,
-        operator: r.operator,
+        ..r
+    }
+}
+
+// A task that waits for nothing and has no event.
+fn anew(state: u8) -> Task
+    ensures { result ≡ record { state = state; arrived = 0; list = 0; operator = 0 } }
+{
+    Task {
+        state: state,
+        arrived: 0,
+        list: 0,
+        operator: 0,
     }
 }
 
 // The task after the call.
+#[tactic(auto, unfolding(crate::specs::Effects::task_after))]
 pub fn task_after(k: Call, r: Task) -> Task
     ensures { result ≡ task_after k r }
 {
     let list = (k.a % 65536) as u16;
-    let operation = k.operation;
-    match operation {
-        START => Task {
-            state: READY,
-            arrived: 0,
-            list: 0,
-            operator: 0,
-        },
-        SIGNAL => signalled_by(k.a, r),
-        WAIT => waited_by(list, (k.b % 256) as u8, r),
-        CLEAR => cleared_by(list, r),
-        _ => Task {
-            state: STOPPED,
-            arrived: 0,
-            list: 0,
-            operator: 0,
-        },
+    match Operation::try_from(k.operation) {
+        Ok(Operation::Start) => anew(READY),
+        Ok(Operation::Signal) => signalled_by(k.a, r),
+        Ok(Operation::Wait) => waited_by(list, (k.b % 256) as u8, r),
+        Ok(Operation::Clear) => cleared_by(list, r),
+        _ => anew(STOPPED),
     }
 }

@@ -22,9 +22,7 @@ pub fn signalled_by(e: u32, r: Task) -> Task
         };
     }
     Task {
-        state: r.state,
         arrived: arrived,
-        list: r.list,
-        operator: r.operator,
+        ..r
     }
 }

@@ -11,29 +11,30 @@ use Rattle.rules.specs.Validity.{counts_in_range, timer_right, timers_right, val
 use Rattle.rules.specs.Effects.{ringing, ticked}
 use Rattle.rules.proofs.Bools.{and_left, and_right, both, given}
 use Rattle.rules.proofs.Validity.{parts_of}
-use Rattle.timers.specs.declared.ring.Rows.{Rows}
-use Rattle.timers.specs.Signals.{signalled_at, rung_row, rung_rows, rows_of, with_rows}
+use Rattle.tables.specs.declared.front.Front.{Front}
+use Rattle.tables.specs.Fronts.{whole}
+use Rattle.timers.specs.Signals.{signalled_at, rung_row, rung_rows, rows_of, with_rows, rows_in, front_with, front_signalled, front_rung, front_ticked}
 
 -- ---- one timer, as the code tests it
 
-module _ (ticks : ℕ) (r : Timer) (rows : Rows) {due : Bool} {next : Rows} (e : due ≡ is_due ticks r) where
-  pub row_signalled : (due && ltb r.owner task_room) ≡ true → next ≡ signalled_at r.owner r.event rows → next ≡ rung_row ticks r rows
+module _ (ticks : ℕ) (r : Timer) (f : Front) {due : Bool} {next : Front} (e : due ≡ is_due ticks r) where
+  pub row_signalled : (due && ltb r.owner task_room) ≡ true → next ≡ front_signalled r.owner r.event f → next ≡ front_with (rung_row ticks r (rows_in f)) f
   unfolding rung_row
   row_signalled h k = rw (← e, h) k
 
-  pub row_left : (due && ltb r.owner task_room) ≡ false → next ≡ rows → next ≡ rung_row ticks r rows
+  pub row_left : (due && ltb r.owner task_room) ≡ false → next ≡ f → next ≡ front_with (rung_row ticks r (rows_in f)) f
   unfolding rung_row
   row_left h k = rw (← e, h) k
 
 -- ---- all of them: what is still to be rung
 
-module _ (ticks i : ℕ) (l : List Timer) (rows : Rows) {z : Rows} where
-  pub rows_again : (d : Timer) {next : Rows} → rung_rows ticks (drop i l) rows ≡ z → next ≡ rung_row ticks (get_or l i d) rows → i < length l
-      → rung_rows ticks (drop (i + 1) l) next ≡ z
+module _ (ticks i : ℕ) (l : List Timer) (f : Front) {z : Front} where
+  pub rows_again : (d : Timer) {next : Front} → front_rung ticks (drop i l) f ≡ z → next ≡ front_with (rung_row ticks (get_or l i d) (rows_in f)) f
+      → i < length l → front_rung ticks (drop (i + 1) l) next ≡ z
   unfolding rung_rows
   rows_again d k e h = rw (add-one, e) (rw (drop-cons l i d) at k)
 
-  pub rows_end : rung_rows ticks (drop i l) rows ≡ z → length l ≤ i → rows ≡ z
+  pub rows_end : front_rung ticks (drop i l) f ≡ z → length l ≤ i → f ≡ z
   unfolding rung_rows
   rows_end k h = rw drop_of_length-le at k
 
@@ -105,11 +106,6 @@ ticked_rows t v =
     let n = later t.ticks 1 in
     ap (with_timers n (map (rung n) t.timers)) (ringing_rows n t.timers t (placed_all t v))
 
--- the same from what the code's three calls give
-pub ticked_is : (t : Table) (n : ℕ) (timers : List Timer) (rows : Rows) → valid t ≡ true → n ≡ later t.ticks 1 → timers ≡ map (rung n) t.timers
-    → rows ≡ rung_rows n t.timers (rows_of t) → with_timers n timers (with_rows rows t) ≡ ticked t
-ticked_is t n timers rows v e k h =
-    ap (λ ts. with_timers n ts (with_rows rows t)) k
-    ∙ ap (λ r. with_timers n (map (rung n) t.timers) (with_rows r t)) h
-    ∙ ap (λ m. with_timers m (map (rung m) t.timers) (with_rows (rung_rows m t.timers (rows_of t)) t)) e
-    ∙ sym (ticked_rows t v)
+-- the same of a front
+pub ticked_is : (f : Front) (es cs : List ℕ) → valid (whole f es cs) ≡ true → whole (front_ticked f) es cs ≡ ticked (whole f es cs)
+ticked_is f es cs v = sym (ticked_rows (whole f es cs) v)

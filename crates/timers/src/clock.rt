@@ -2,14 +2,16 @@
 ghost use Rattle.std.specs.Prelude.{◌≡◌};
 ghost use Rattle.rules.specs.Timers.{later, ahead};
 
-pub fn later_by(ticks: u32, n: u32) -> u32
+#[tactic(auto, unfolding(rules::specs::Timers::later))]
+pub(crate) fn later_by(ticks: u32, n: u32) -> u32
     ensures { result ≡ later ticks n }
 {
-    std::num::wrapping_add_u32(ticks, n)
+    ticks.wrapping_add(n)
 }
 
+#[tactic(auto, unfolding(rules::specs::Timers::ahead))]
 pub(crate) fn ahead_of(date: u32, ticks: u32) -> u32
     ensures { result ≡ ahead date ticks }
 {
-    std::num::wrapping_sub_u32(date, ticks)
+    date.wrapping_sub(ticks)
 }

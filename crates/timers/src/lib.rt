@@ -8,5 +8,4 @@ mod ring;
 
 pub use arm::{others_at, timer_after, timers_left};
 pub use check::timers_right;
-pub use clock::later_by;
-pub use ring::{Rows, rung_all, rung_rows};
+pub use ring::tick;

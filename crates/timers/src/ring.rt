@@ -1,19 +1,21 @@
-// A tick: the timers that are due signal their events to the tasks that own them, and are idle again.
+// A tick: the counter goes on, the timers that are due signal their events to the tasks that own them, and are idle again.
 ghost use Rattle.std.specs.Prelude.{◌≡◌, ◌<◌, map};
 ghost use Rattle.rules.specs.Numbers.{task_room};
 ghost use Rattle.rules.specs.Timers.{is_due, rung};
-ghost use Rattle.timers.specs.Signals.{signalled_at, rung_rows};
+ghost use Rattle.timers.specs.Signals.{front_signalled, front_rung, front_ticked};
 
-use crate::arm::idle_if;
-use crate::clock::ahead_of;
+use crate::arm::{idle_if, is_armed};
+use crate::clock::{ahead_of, later_by};
 use rules::{TASKS, TIMERS, Task, Timer};
+use tables::Front;
 use tasks::signalled_by;
 
 // Whether the counter has reached the timer's date: no tick is left.
+#[tactic(auto, using(crate::proofs::Dates::due_is))]
 fn is_due(ticks: u32, r: Timer) -> bool
     ensures { result ≡ is_due ticks r }
 {
-    (r.armed == 1) & (ahead_of(r.date, ticks) == 0)
+    is_armed(r) & (ahead_of(r.date, ticks) == 0)
 }
 
 fn rung_timer(ticks: u32, r: Timer) -> Timer
@@ -22,54 +24,53 @@ fn rung_timer(ticks: u32, r: Timer) -> Timer
     idle_if(is_due(ticks, r), r)
 }
 
-// The timers once those that are due have rung.
-pub fn rung_all(ticks: u32, mut timers: [Timer; TIMERS]) -> [Timer; TIMERS]
+// The timers once those that are due have rung, by a loop as `disarmed_all`.
+fn rung_all(ticks: u32, mut timers: [Timer; TIMERS]) -> [Timer; TIMERS]
     ensures { result ≡ map (rung ticks) timers }
 {
-    for i in 0..TIMERS {
-        let r = timers[i];
-        timers[i] = rung_timer(ticks, r);
+    for r in &mut timers {
+        *r = rung_timer(ticks, *r);
     }
     timers
 }
 
-// The columns that a signal may change.
-#[derive(Drop)]
-pub struct Rows {
-    pub state: [u8; TASKS],
-    pub arrived: [u16; TASKS],
-    pub list: [u16; TASKS],
-    pub operator: [u8; TASKS],
-}
-
-fn signal_at(i: usize, event: u8, mut rows: Rows) -> Rows
+#[tactic(auto, unfolding(crate::specs::Signals::signalled_at))]
+fn signal_at(i: usize, event: u8, f: &mut Front)
     requires { i < task_room }
-    ensures { result ≡ signalled_at i event rows }
+    ensures { f.new ≡ front_signalled i event f.old }
 {
-    let r = Task {
-        state: rows.state[i],
-        arrived: rows.arrived[i],
-        list: rows.list[i],
-        operator: rows.operator[i],
-    };
-    let after = signalled_by(event as u32, r);
-    rows.state[i] = after.state;
-    rows.arrived[i] = after.arrived;
-    rows.list[i] = after.list;
-    rows.operator[i] = after.operator;
-    rows
+    let after = signalled_by(
+        event as u32,
+        Task {
+            state: f.state[i],
+            arrived: f.arrived[i],
+            list: f.list[i],
+            operator: f.operator[i],
+        },
+    );
+    f.state[i] = after.state;
+    f.arrived[i] = after.arrived;
+    f.list[i] = after.list;
+    f.operator[i] = after.operator;
 }
 
-// A timer of a damaged table may name a task past the columns: it signals nobody.
-pub fn rung_rows(ticks: u32, timers: [Timer; TIMERS], mut rows: Rows) -> Rows
-    ensures { result ≡ rung_rows ticks timers rows }
+// The columns once each timer that is due has signalled. One of a damaged table may name a task past the columns: it signals nobody.
+fn rung_rows(ticks: u32, timers: [Timer; TIMERS], f: &mut Front)
+    ensures { f.new ≡ front_rung ticks timers f.old }
 {
-    for k in 0..TIMERS {
-        let r = timers[k];
+    for r in timers {
         let owner = r.owner as usize;
         if is_due(ticks, r) & (owner < TASKS) {
-            rows = signal_at(owner, r.event, rows);
+            signal_at(owner, r.event, f);
         }
     }
-    rows
+}
+
+pub fn tick(f: &mut Front)
+    ensures { f.new ≡ front_ticked f.old }
+{
+    let now = later_by(f.ticks, 1);
+    rung_rows(now, f.timers, f);
+    f.timers = rung_all(now, f.timers);
+    f.ticks = now;
 }

@@ -1,79 +1,64 @@
 // Configurations: their answers, and the tables that they give.
 ghost use Rattle.std.specs.Prelude.{◌≡◌, length};
 
-use super::blocks::{same_tables, zeros};
+use super::damage::low_byte;
 use super::rows::Row;
-use super::scenes::{fresh_one, fresh_table};
-use crate::say;
+use super::say::Shown;
+use super::scenes::{fresh_one, fresh_table, zeros};
 use executive::fresh;
 use rules::Table;
-
-// The answer of a configuration, and its table.
-fn answered<'a>(
-    rt: HostRuntime,
-    r: Row,
-    priorities: &'a [u8],
-    bounds: &'a [u8],
-    marks: &'a [u8],
-) -> Table {
-    let d = fresh(
-        (r.a % 256) as u8,
-        (r.b % 256) as u8,
-        (r.c % 256) as u8,
-        priorities,
-        bounds,
-        marks,
-    );
-    say::answer(rt, d.answer);
-    d.table
-}
+use std::{array, io};
 
 // A configuration: its answer, and whether its table is that of zeros.
-fn built<'a>(
+fn built(
     rt: HostRuntime,
     r: Row,
-    priorities: &'a [u8],
-    bounds: &'a [u8],
-    marks: &'a [u8],
-) -> Table {
-    let table = answered(rt, r, priorities, bounds, marks);
-    say::ending(rt, same_tables(table, zeros()), b"zeros", b"built");
-    table
+    priorities: &[u8],
+    bounds: &[u8],
+    marks: &[u8],
+) -> io::Result<Table> {
+    let tasks = low_byte(r.a);
+    let regions = low_byte(r.b);
+    let queues = low_byte(r.c);
+    let d = fresh(tasks, regions, queues, priorities, bounds, marks);
+    let ending = if d.table == zeros() { "zeros" } else { "built" };
+    println!(rt; ": {} {ending}", Shown(d.answer))?;
+    Ok(d.table)
 }
 
 // With the lists of document 01's examples.
-pub(crate) fn benched(rt: HostRuntime, r: Row) -> Table {
+pub(crate) fn benched(rt: HostRuntime, r: Row) -> io::Result<Table> {
     built(rt, r, &[5, 5, 2], &[2], &[0, 0])
 }
 
 // The same number all along, but for the last of the first n.
-fn all_but_last(each: u8, n: u32, last: u8) -> [u8; 256]
+fn all_but_last(each: u8, n: u8, last: u8) -> [u8; 256]
     ensures { 256 ≡ length result }
 {
-    let mut out = [each; 256];
-    if 0 < n {
-        out[((n - 1) % 256) as usize] = last;
-    }
-    out
+    array::from_fn(|i| if i + 1 == usize::from(n) { last } else { each })
 }
 
 // With so many priorities, each 7, so many bounds, each 2, and so many marks, each 0: but for the last bound and the last mark.
-pub(crate) fn listed(rt: HostRuntime, r: Row) -> Table {
-    let priorities = [7u8; 256];
-    let bounds = all_but_last(2, r.bounds, (r.last % 256) as u8);
-    let marks = all_but_last(0, r.marks, (r.mark % 256) as u8);
-    let p = (r.priorities % 256) as usize;
-    let b = (r.bounds % 256) as usize;
-    let m = (r.marks % 256) as usize;
-    built(rt, r, &priorities[0..p], &bounds[0..b], &marks[0..m])
+pub(crate) fn listed(rt: HostRuntime, r: Row) -> io::Result<Table> {
+    let priorities = [7; 256];
+    let bounds = all_but_last(2, r.bounds, r.last);
+    let marks = all_but_last(0, r.marks, r.mark);
+    built(
+        rt,
+        r,
+        &priorities[..usize::from(r.priorities)],
+        &bounds[..usize::from(r.bounds)],
+        &marks[..usize::from(r.marks)],
+    )
 }
 
 // Entries past a count leave no trace in the table: document 01's configuration, and the same with longer lists.
-pub(crate) fn lengthened(rt: HostRuntime) {
+pub(crate) fn lengthened(rt: HostRuntime) -> io::Result<()> {
     let longer = fresh_table(3, 2, 1, &[5, 5, 2, 9], &[2, 65], &[0, 0, 2]);
-    if same_tables(fresh_one(), longer) {
-        say::line(rt, b": the same table");
+    let which = if longer == fresh_one() {
+        "the same"
     } else {
-        say::line(rt, b": another table");
-    }
+        "another"
+    };
+    println!(rt; ": {which} table")
 }

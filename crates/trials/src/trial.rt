@@ -1,56 +1,42 @@
 // One trial: its table, what is tried on it, and the rest of its line.
-use super::blocks::same_tables;
-use super::damage::spoiled;
+use super::configurations::{benched, lengthened, listed};
+use super::damage::{Field, low_byte, spoiled};
 use super::marks::marked;
-use super::names::{ARRIVED, CHANGE, CONFIGURE, LIST, MARKS, STATE};
-use super::questions::replied;
-use super::rows::Row;
+use super::rows::{Ask, Row};
+use super::say::Shown;
 use super::scenes::table_of;
-use crate::{configurations, say};
-use executive::call;
-use rules::{CLEAR, Call, Table};
-
-// The five numbers of a call.
-fn call_of(r: Row) -> Call {
-    Call {
-        caller: (r.caller % 256) as u8,
-        operation: (r.operation % 256) as u8,
-        a: r.a,
-        b: r.b,
-        c: r.c,
-    }
-}
-
-// The answer of a call, and the table after it.
-fn answered(rt: HostRuntime, t: Table, k: Call) -> Table {
-    let d = call(t, k);
-    say::answer(rt, d.answer);
-    d.table
-}
+use executive::{arrived, call, empty, full, priority, state};
+use rules::{Answer, Call, Operation, Table};
+use std::io;
 
 // A call: the answer, and whether the table has changed.
-fn called(rt: HostRuntime, before: Table, k: Call) -> Table {
-    let after = answered(rt, before, k);
-    say::ending(rt, same_tables(before, after), b"untouched", b"changed");
-    after
+fn called(rt: HostRuntime, before: Table, k: Call) -> io::Result<Table> {
+    let d = call(before, k);
+    let ending = if d.table == before {
+        "untouched"
+    } else {
+        "changed"
+    };
+    println!(rt; ": {} {ending}", Shown(d.answer))?;
+    Ok(d.table)
 }
 
-// A query: the answer alone.
-fn asked(rt: HostRuntime, table: Table, r: Row) {
-    say::answer(rt, replied(table, r));
-    say::word(rt, b"\n");
+// A query: the answer alone, since the table stays.
+fn asked(rt: HostRuntime, table: Table, reply: Answer) -> io::Result<Table> {
+    println!(rt; ": {}", Shown(reply))?;
+    Ok(table)
 }
 
 // A CLEAR of event 0 by task 0, on the table with c in field a at entry b. A change that changes nothing would be no trial.
-fn damaged(rt: HostRuntime, table: Table, r: Row) -> Table {
-    let other = spoiled(table, r.a, r.b, r.c);
-    if same_tables(table, other) {
-        say::word(rt, b": nothing changed\n");
-        return table;
+fn damaged(rt: HostRuntime, table: Table, r: Row) -> io::Result<Table> {
+    let other = spoiled(table, Field::from(r.a), r.b, r.c);
+    if other == table {
+        println!(rt; ": nothing changed")?;
+        return Ok(table);
     }
     let clear = Call {
         caller: 0,
-        operation: CLEAR,
+        operation: Operation::Clear.number(),
         a: 1,
         b: 0,
         c: 0,
@@ -58,26 +44,43 @@ fn damaged(rt: HostRuntime, table: Table, r: Row) -> Table {
     called(rt, other, clear)
 }
 
-// What a line asks for: a call, a query, or an operation of the program's own.
-pub(crate) fn trial(rt: HostRuntime, r: Row, before: Table) -> Table {
-    let table = table_of(r.table, before);
-    let operation = r.operation;
-    match operation {
-        0..=255 => called(rt, table, call_of(r)),
-        ARRIVED..=STATE => {
-            asked(rt, table, r);
-            table
+// What a line asks for: a call, a query, or an operation of the program's own. Returns the table that it leaves.
+pub(crate) fn trial(rt: HostRuntime, r: Row, before: Table) -> io::Result<Table> {
+    let table = table_of(r.scene, before);
+    let Row {
+        caller,
+        a,
+        b,
+        c,
+        ..
+    } = r;
+    match r.ask {
+        Ask::Call(operation) => called(
+            rt,
+            table,
+            Call {
+                caller,
+                operation,
+                a,
+                b,
+                c,
+            },
+        ),
+        Ask::Arrived => asked(rt, table, arrived(table, caller, a, b)),
+        Ask::Empty => asked(rt, table, empty(table, a)),
+        Ask::Full => asked(rt, table, full(table, a)),
+        Ask::Priority => asked(rt, table, priority(table, a)),
+        Ask::State => asked(rt, table, state(table, a)),
+        Ask::Change => damaged(rt, table, r),
+        Ask::Configure => benched(rt, r),
+        Ask::List => listed(rt, r),
+        Ask::Lengthen => {
+            lengthened(rt)?;
+            Ok(table)
         }
-        CHANGE => damaged(rt, table, r),
-        CONFIGURE => configurations::benched(rt, r),
-        LIST => configurations::listed(rt, r),
-        MARKS => {
-            marked(rt, r);
-            table
-        }
-        _ => {
-            configurations::lengthened(rt);
-            table
+        Ask::Marks => {
+            marked(rt, low_byte(a))?;
+            Ok(table)
         }
     }
 }

@@ -1,83 +1,67 @@
 // The words of a line: numbers, and names that stand for numbers.
-ghost use Rattle.std.specs.Prelude.{◌≡◌, ◌≢◌, ℕ, ◌<◌, ◌≤◌, length, slice_index};
+ghost use Rattle.std.specs.Prelude.{◌<◌, length, IfSome};
 
-use crate::say;
-use digits::decimal_of;
-use tables::byte_at;
+use super::damage::FIELDS;
+use super::rows::{ASKS, FIRST_ASK};
+use super::scenes::SCENES;
+use rules::{OUTSIDE, Operation};
+use std::io;
+use texts::number_in;
 
-// What no name stands for.
-const NOTHING: u32 = 4294967295;
+// The thirteen operations, WAIT's operators, a number that is not read, and the caller that is no task.
+const NUMBERS: [(&str, u8); 17] = [
+    ("START", Operation::Start as u8),
+    ("STOP", Operation::Stop as u8),
+    ("END", Operation::End as u8),
+    ("SIGNAL", Operation::Signal as u8),
+    ("WAIT", Operation::Wait as u8),
+    ("CLEAR", Operation::Clear as u8),
+    ("ENTER", Operation::Enter as u8),
+    ("EXIT", Operation::Exit as u8),
+    ("SEND", Operation::Send as u8),
+    ("RETRIEVE", Operation::Retrieve as u8),
+    ("ARM", Operation::Arm as u8),
+    ("DISARM", Operation::Disarm as u8),
+    ("TICK", Operation::Tick as u8),
+    ("all", 0),
+    ("any", 1),
+    ("-", 0),
+    ("outside", OUTSIDE),
+];
 
-// The place of the first such byte from `from` on and before `to`, or `to` where there is none.
-pub(crate) fn find(text: &[u8], from: usize, to: usize, byte: u8) -> usize
-    requires { (from ≤ to) × (to ≤ length text.now) }
-    ensures within { (from ≤ result) × (result ≤ to) }
-    ensures before { (k : ℕ) → from ≤ k → k < result → slice_index text.now k ≢ byte }
-    ensures found { result < to → slice_index text.now result ≡ byte }
+// The place of a name in a list of names and what they name.
+fn place_of<T>(word: &[u8], names: &[(&str, T)]) -> Option<u32>
+    ensures { IfSome result (λ place. place < length names.now) }
 {
-    for i in from..to {
-        if text[i] == byte {
-            return i;
-        }
-    }
-    to
+    names
+        .iter()
+        .position(|(name, _)| name.as_bytes() == word)
+        .and_then(|place| u32::try_from(place).ok())
 }
 
-// Digits come before letters.
-fn is_number(word: &[u8]) -> bool {
-    let first = byte_at(word, 0);
-    (b'0' <= first) & (first <= b'9')
+// What stands at a place of such a list.
+pub(crate) fn named_by<T: Copy>(names: &[(&str, T)], place: u32) -> Option<T> {
+    names.get(place as usize).map(|(_, named)| *named)
 }
 
-// What the next name of a list stands for: behind a number, that number, and behind a name one more than that name.
-fn next(n: u32, word: &[u8]) -> u32 {
-    if is_number(word) {
-        return decimal_of(word);
-    }
-    n.wrapping_add(1)
-}
-
-// What the word stands for by a list of names and numbers that each have a space behind them.
-fn looked_up(word: &[u8], names: &[u8]) -> u32 {
-    let mut n = 0u32;
-    let mut start = 0;
-    while start < names.len() {
-        let end = find(names, start, names.len(), b' ');
-        let name = &names[start..end];
-        if word == name {
-            return n;
-        }
-        n = next(n, name);
-        start = end + 1;
-    }
-    NOTHING
-}
-
-// The names: of tables (see `scenes`), of operations, of the queries and the program's own operations (see `names`), of a table's
-// fields (see `damage`), of operators; a number that is not read; and the caller that is no task.
-fn name_of(word: &[u8]) -> u32 {
-    looked_up(
-        word,
-        b"0 fresh signalled held full rivals asleep ended busy largest last filled zeros wrong turning armed shared lined crossed then \
-        0 START STOP END SIGNAL WAIT CLEAR ENTER EXIT SEND RETRIEVE ARM DISARM TICK \
-        256 ARRIVED EMPTY FULL PRIORITY STATE Change Configure List Lengthen Marks \
-        0 tasks regions queues elected priority state arrived list operator awaits holder entries opened bound length \
-        element criterion ticks flag owner event date \
-        0 all any \
-        0 - \
-        255 outside ",
-    )
+// The number that a name stands for: its own, or its place in the list of tables, of fields or of what a line asks for.
+fn number_named(word: &[u8]) -> Option<u32> {
+    NUMBERS
+        .iter()
+        .find(|(name, _)| name.as_bytes() == word)
+        .map(|(_, number)| u32::from(*number))
+        .or_else(|| place_of(word, &SCENES))
+        .or_else(|| place_of(word, &FIELDS))
+        .or_else(|| place_of(word, &ASKS).map(|place| FIRST_ASK + place))
 }
 
 // The number that a word stands for. An unknown word is written out, so that it can't go unseen.
-pub(crate) fn value_of(rt: HostRuntime, word: &[u8]) -> u32 {
-    if is_number(word) {
-        return decimal_of(word);
+pub(crate) fn value_of(rt: HostRuntime, word: &[u8]) -> io::Result<u32> {
+    if let Some(n) = number_in(word).or_else(|| number_named(word)) {
+        return Ok(n);
     }
-    let n = name_of(word);
-    if n == NOTHING {
-        say::word(rt, b"unknown: ");
-        say::line(rt, word);
-    }
-    n
+    print!(rt; "unknown: ")?;
+    rt.write_all(word)?;
+    println!(rt)?;
+    Ok(u32::MAX)
 }

@@ -1,9 +1,5 @@
 -- The two functions as the code has them: what is left falls where a region asks its tasks.
-use Prim.Native.Nat.{ℕ, zero, suc, ◌-◌, min}
-use mathlib.Core.Path.{◌≡◌, refl}
-use mathlib.Core.List.{List}
-use native.Mathlib.Omega.{arith}
-use lib.ListN.{get_or}
+use Rattle.std.proofs.Common.{ℕ, zero, suc, ◌-◌, min, ◌≡◌, refl, List, arith, get_or}
 use Rattle.rules.specs.Numbers.{task_room, region_room, priority_end}
 use Rattle.rules.specs.Election.{smallest}
 use Rattle.rules.specs.Urgency.{awaiting, holding, urgency_by, region_urgency, task_urgency}

@@ -1,9 +1,5 @@
 -- The heir is chosen by the urgencies of those in line alone.
-use Prim.Native.Nat.{ℕ, ◌<◌}
-use mathlib.Core.Path.{◌≡◌, refl, sym, ◌∙◌}
-use mathlib.Core.Bool.{true, cond}
-use mathlib.Core.List.{List}
-use lib.ListN.{get_or}
+use Rattle.std.proofs.Common.{ℕ, ◌<◌, ◌≡◌, refl, sym, ◌∙◌, true, cond, List, get_or}
 use Rattle.rules.specs.Numbers.{task_room}
 use Rattle.rules.specs.Election.{ready_at, best_ready}
 use Rattle.rules.specs.Urgency.{awaiting, task_urgency, urgencies, line, heir}
@@ -26,3 +22,8 @@ module _ (priority awaits opened holder : List ℕ) (r : ℕ) where
   heir_by_line =
       best_same (line awaits r) (line_urgencies priority awaits opened holder r) (line awaits r) (urgencies priority awaits opened holder)
       (λ i l. refl) in_line
+
+  -- as the code has it
+  pub heir_chosen : {waiting urgency : List ℕ} {best : ℕ} → best ≡ best_ready waiting urgency → waiting ≡ line awaits r
+      → urgency ≡ line_urgencies priority awaits opened holder r → best ≡ heir priority awaits opened holder r
+  heir_chosen e f h = e ∙ rw (f, h) heir_by_line

@@ -1,13 +1,5 @@
--- Where nobody waits for a region: the urgencies are the priorities, and the election is by these and the states as stored.
-use Prim.Native.Nat.{ℕ, suc, ◌<◌}
-use mathlib.Core.Path.{◌≡◌, sym, ◌∙◌}
-use mathlib.Core.Logic.{⊎_elim}
-use mathlib.Core.Bool.{true}
-use mathlib.Core.List.{List}
-use native.Mathlib.Omega.{arith}
-use native.Mathlib.Nat.{le_of_lt}
-use lib.ListN.{get_or, length}
-use borrow.Author.Tests.{eqb-true}
+-- Where nobody waits for a region: the urgencies are the priorities, the election is by these and the states as stored, there is no circle, and no heir.
+use Rattle.std.proofs.Common.{ℕ, suc, ◌<◌, ◌≡◌, sym, ◌∙◌, ⊎_elim, true, List, arith, le_of_lt, get_or, length, eqb-true}
 use Rattle.rules.specs.Numbers.{task_room, priority_end, nobody}
 use Rattle.rules.specs.Words.{is_zero}
 use Rattle.rules.specs.Election.{lowest, is_best, best_ready, elected_by, elect_by}
@@ -17,19 +9,30 @@ use Rattle.rules.proofs.Bools.{and_left, or_first}
 use Rattle.rules.proofs.Counts.{below_at, below_all}
 use Rattle.rules.proofs.Election.{lowest_is}
 use Rattle.rules.proofs.Heirs.{line_ready}
+use Rattle.rules.specs.Circles.{ends, no_circle}
+use Rattle.rules.proofs.Ways.{onward_none, ends_here}
 use Rattle.rules.proofs.Urgency.{urgencies_quiet, states_quiet}
 
 module _ (priority awaits opened holder : List ℕ) (nobody : nobody_awaits awaits ≡ true) (long : length priority ≡ task_room)
-    (small : (i : ℕ) → i < task_room → get_or priority i 0 < priority_end) {own : List ℕ} (same : own ≡ priority) where
-  pub own_urgencies : own ≡ urgencies priority awaits opened holder
-  own_urgencies = same ∙ sym (urgencies_quiet priority awaits opened holder nobody long (λ i l. le_of_lt (small i l)))
+    (small : (i : ℕ) → i < task_room → get_or priority i 0 < priority_end) where
+  pub own_urgencies : priority ≡ urgencies priority awaits opened holder
+  own_urgencies = sym (urgencies_quiet priority awaits opened holder nobody long (λ i l. le_of_lt (small i l)))
 
   module _ (state : List ℕ) (states : length state ≡ task_room) where
-    pub elected_quiet : (v : ℕ) → elected_by v state own ≡ elected_by v (states_with awaits state) (urgencies priority awaits opened holder)
+    pub elected_quiet : (v : ℕ) → elected_by v state priority ≡ elected_by v (states_with awaits state) (urgencies priority awaits opened holder)
     elected_quiet v = rw (states_quiet awaits state nobody states, ← own_urgencies)
 
-    pub elect_quiet : (former v : ℕ) → elect_by former v state own ≡ elect_by former v (states_with awaits state) (urgencies priority awaits opened holder)
+    pub elect_quiet : (former v : ℕ) → elect_by former v state priority ≡ elect_by former v (states_with awaits state) (urgencies priority awaits opened holder)
     elect_quiet former v = rw (states_quiet awaits state nobody states, ← own_urgencies)
+
+-- there is no circle
+pub no_circle_quiet : (awaits holder : List ℕ) → nobody_awaits awaits ≡ true → no_circle awaits holder ≡ true
+unfolding nobody_awaits no_circle
+no_circle_quiet awaits holder h =
+    below_all (ends awaits holder task_room) task_room
+    (λ i l.
+    ends_here awaits holder task_room i
+    (onward_none awaits holder i (eqb-true (get_or awaits i 0) 0 (below_at (λ j. is_zero (get_or awaits j 0)) task_room i h l))))
 
 -- and whoever waits for nothing waits for what it may
 pub awaits_quiet : (tasks : ℕ) (states awaits opened holder : List ℕ) → nobody_awaits awaits ≡ true → awaits_fit tasks states awaits opened holder ≡ true

@@ -1,3 +1,4 @@
 -- The definitions that this crate's contracts cite.
 pub mod Carrying
 pub mod Lines
+pub mod Named

@@ -1,106 +1,65 @@
 // Circles: the way from a task over the region that it waits for to who holds that, whether it ends, and whom it meets.
-ghost use Rattle.std.specs.Prelude.{◌≡◌, length};
-ghost use Rattle.rules.specs.Numbers.{task_room, region_room};
+ghost use Rattle.std.specs.Prelude.{◌≡◌};
+ghost use Rattle.rules.specs.Numbers.{task_room};
 ghost use Rattle.rules.specs.Circles.{onward, ends, meets, no_circle};
+ghost use Rattle.urgency.specs.Named.{stored};
 
-use crate::stored::index_of;
+use crate::stored::named;
 use crate::waiting::nobody_awaits;
-use rules::{REGIONS, TASKS};
+use rules::TASKS;
+use tables::Front;
 
-// Who holds what the task waits for, as stored; 0 where the way ends, and for numbers out of range.
-fn onward_of<'a>(i: u8, awaits: &'a [u8; TASKS], holder: &'a [u8; REGIONS]) -> u8
-    requires awaits_len { length awaits.now ≡ task_room }
-    requires holder_len { length holder.now ≡ region_room }
-    ensures { result ≡ onward awaits.now holder.now i }
+// Who holds what the task waits for; nobody where the way ends, and for numbers out of range.
+#[tactic(auto, unfolding(rules::specs::Circles::onward))]
+fn onward_of(f: &Front, i: u8) -> Option<u8>
+    ensures { stored result ≡ onward f.now.awaits f.now.holder i }
 {
-    let task = i as usize;
-    if task >= TASKS {
-        return 0;
-    }
-    let a = awaits[task];
-    if a == 0 {
-        return 0;
-    }
-    let region = index_of(a) as usize;
-    if region >= REGIONS {
-        return 0;
-    }
-    holder[region]
+    let region = named(*f.awaits.get(usize::from(i))?)?;
+    named(*f.holder.get(usize::from(region))?)
 }
 
 // The way from task i ends within so many steps.
-fn ends_of<'a>(left: u8, i: u8, awaits: &'a [u8; TASKS], holder: &'a [u8; REGIONS]) -> bool
-    requires awaits_len { length awaits.now ≡ task_room }
-    requires holder_len { length holder.now ≡ region_room }
-    ensures { result ≡ ends awaits.now holder.now left i }
+#[tactic(auto, unfolding(rules::specs::Circles::ends))]
+fn ends_of(f: &Front, left: u8, i: u8) -> bool
+    ensures { result ≡ ends f.now.awaits f.now.holder left i }
 {
-    let o = onward_of(i, awaits, holder);
-    if o == 0 {
-        return true;
+    match onward_of(f, i) {
+        None => true,
+        Some(next) => left != 0 && ends_of(f, left - 1, next),
     }
-    if left == 0 {
-        return false;
-    }
-    ends_of(left - 1, index_of(o), awaits, holder)
 }
 
 // The way from task i comes to the caller within so many steps.
-fn meets_within<'a>(
-    left: u8,
-    caller: u8,
-    i: u8,
-    awaits: &'a [u8; TASKS],
-    holder: &'a [u8; REGIONS],
-) -> bool
-    requires awaits_len { length awaits.now ≡ task_room }
-    requires holder_len { length holder.now ≡ region_room }
-    ensures { result ≡ meets awaits.now holder.now left caller i }
+#[tactic(auto, unfolding(rules::specs::Circles::meets))]
+fn meets_within(f: &Front, left: u8, caller: u8, i: u8) -> bool
+    ensures { result ≡ meets f.now.awaits f.now.holder left caller i }
 {
     if i == caller {
         return true;
     }
-    if left == 0 {
-        return false;
+    match onward_of(f, i) {
+        None => false,
+        Some(next) => left != 0 && meets_within(f, left - 1, caller, next),
     }
-    let o = onward_of(i, awaits, holder);
-    if o == 0 {
-        return false;
-    }
-    meets_within(left - 1, caller, index_of(o), awaits, holder)
 }
 
 // As many steps as there are tasks are enough: a way that has not met the caller by then goes round without it.
-pub fn meets_of<'a>(caller: u8, i: u8, awaits: &'a [u8; TASKS], holder: &'a [u8; REGIONS]) -> bool
-    requires awaits_len { length awaits.now ≡ task_room }
-    requires holder_len { length holder.now ≡ region_room }
-    ensures { result ≡ meets awaits.now holder.now task_room caller i }
+pub fn meets_of(f: &Front, caller: u8, i: u8) -> bool
+    ensures { result ≡ meets f.now.awaits f.now.holder task_room caller i }
 {
-    meets_within(TASKS as u8, caller, i, awaits, holder)
+    meets_within(f, TASKS as u8, caller, i)
 }
 
 // The first way that doesn't end is enough, so that a table with a circle costs little.
-fn each_ends<'a>(awaits: &'a [u8; TASKS], holder: &'a [u8; REGIONS]) -> bool
-    requires awaits_len { length awaits.now ≡ task_room }
-    requires holder_len { length holder.now ≡ region_room }
-    ensures { result ≡ no_circle awaits.now holder.now }
+fn each_ends(f: &Front) -> bool
+    ensures { result ≡ no_circle f.now.awaits f.now.holder }
 {
-    for i in 0..TASKS {
-        let round = !ends_of(TASKS as u8, i as u8, awaits, holder);
-        if round {
-            return false;
-        }
-    }
-    true
+    (0..TASKS as u8).all(|i| ends_of(f, TASKS as u8, i))
 }
 
 // Where nobody waits for a region, no way has a step.
-pub fn no_circle<'a>(awaits: &'a [u8; TASKS], holder: &'a [u8; REGIONS]) -> bool
-    requires awaits_len { length awaits.now ≡ task_room }
-    requires holder_len { length holder.now ≡ region_room }
-    ensures { result ≡ no_circle awaits.now holder.now }
+pub(crate) fn no_circle(f: &Front) -> bool
+    ensures { result ≡ no_circle f.now.awaits f.now.holder }
 {
-    if nobody_awaits(awaits) {
-        return true;
-    }
-    each_ends(awaits, holder)
+    nobody_awaits(f) || each_ends(f)
 }

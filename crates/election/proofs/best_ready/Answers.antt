@@ -1,14 +1,12 @@
 -- The lowest number of the smallest priority.
-use mathlib.Core.Path.{ap, ◌∙◌}
-use mathlib.Core.Bool.{◌&&◌}
-use lib.Dec.{eqb}
+use Rattle.std.proofs.Common.{ap, ◌∙◌, ◌&&◌, eqb}
 use Rattle.rules.specs.Numbers.{task_room}
 use Rattle.rules.specs.Election.{lowest, ready_at, priority_at, is_best, best_ready}
 use Rattle.election.proofs.Ranks.{smallest_within}
 use Rattle.election.proofs.best_ready.Goals as goal
 
-pub lowest_of-requires-clause-p_le_priority_end : goal.lowest_of-requires-clause-p_le_priority_end
-lowest_of-requires-clause-p_le_priority_end c = smallest_within _ _ _ c.smallest_of-p.ensures
+pub lowest_of-requires : goal.lowest_of-requires
+lowest_of-requires c = smallest_within _ _ _ c.smallest_of-p.ensures
 
 pub returns : goal.returns
 unfolding best_ready is_best

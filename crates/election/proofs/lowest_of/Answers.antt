@@ -1,7 +1,5 @@
 -- The empty word says that there is none; of any other the lowest bit is the lowest number.
-use mathlib.Core.Path.{◌∙◌}
-use native.Mathlib.Omega.{arith}
-use lib.Count.{trailing_le}
+use Rattle.std.proofs.Common.{◌∙◌, arith}
 use Rattle.rules.specs.Numbers.{task_room}
 use Rattle.election.specs.Words.{word_bits}
 use Rattle.election.proofs.Words.{empty_is, trailing_is}
@@ -9,9 +7,6 @@ use Rattle.election.proofs.lowest_of.Goals as goal
 
 pub returns-then-w-eq0 : goal.returns-then-w-eq0
 returns-then-w-eq0 c = empty_is task_room _ c.ready_word-w.ensures (omega arith) c.if-w-eq0.true
-
-pub overflow_cast-result : goal.overflow_cast-result
-overflow_cast-result c = record { fits = omega (arith, c.lowest_bit.ensures, trailing_le word_bits c.ready_word-w.result) }
 
 pub returns : goal.returns
 returns c = c.lowest_bit.ensures ∙ trailing_is task_room _ c.ready_word-w.ensures (omega arith) word_bits (omega arith) c.if-w-eq0.false

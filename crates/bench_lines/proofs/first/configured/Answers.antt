@@ -9,8 +9,7 @@ numbers_of-numbers-requires c = plain_short _ c.requires.plain_line
 
 pub returns-then-not-counts_right : goal.returns-then-not-counts_right
 returns-then-not-counts_right c =
-    c.first_refused.ensures
-    ∙ counts_refuse _ _ c.numbers_of-numbers.ensures c.requires.plain_line c.requires.long_and_even _ c.counts_right.ensures c.if-not-counts_right.true
+    counts_refuse _ _ c.numbers_of-numbers.ensures c.requires.plain_line c.requires.long_and_even _ c.counts_right.ensures c.if-not-counts_right.true
 
 pub overflow_add-bounds : goal.overflow_add-bounds
 overflow_add-bounds c =
@@ -34,8 +33,7 @@ overflow_mul-digits c =
 
 pub returns-then-line-digits : goal.returns-then-line-digits
 returns-then-line-digits c =
-    c.first_refused-then-line-digits.ensures
-    ∙ length_refuses _ _ c.numbers_of-numbers.ensures c.requires.plain_line c.requires.long_and_even _ c.counts_right.ensures c.if-not-counts_right.false c.if-line-digits.true
+    length_refuses _ _ c.numbers_of-numbers.ensures c.requires.plain_line c.requires.long_and_even _ c.counts_right.ensures c.if-not-counts_right.false (rw (c.from-bounds.ensures, c.from.ensures, c.from-2.ensures) at c.if-line-digits.true)
 
 pub fresh_from-requires : goal.fresh_from-requires
 fresh_from-requires c =
@@ -45,5 +43,5 @@ fresh_from-requires c =
 
 pub returns : goal.returns
 returns c =
-    c.fresh_from.ensures
-    ∙ accepted _ _ c.numbers_of-numbers.ensures c.requires.plain_line c.requires.long_and_even _ c.counts_right.ensures c.if-not-counts_right.false c.if-line-digits.false
+    rw (c.from-bounds.ensures, c.from.ensures, c.from-2.ensures) at c.fresh_from.ensures
+    ∙ accepted _ _ c.numbers_of-numbers.ensures c.requires.plain_line c.requires.long_and_even _ c.counts_right.ensures c.if-not-counts_right.false (rw (c.from-bounds.ensures, c.from.ensures, c.from-2.ensures) at c.if-line-digits.false)

@@ -1,50 +1,31 @@
--- The first reason is the rules'; a call that is accepted is done by its kind, and only SEND and RETRIEVE change the store.
-use Rattle.std.proofs.Common.{sym, ◌∙◌, arith}
-use Rattle.calls.proofs.Together.{in_parts, front_parts}
-use Rattle.calls.proofs.Done.{refused_step, is_tick_lem}
+-- The first reason is the rules'; a command is done by its kind, and only SEND and RETRIEVE change the store.
+use Rattle.std.proofs.Common.{◌≢◌, sym, arith, rules}
+use Rattle.rules.specs.Numbers.{SEND, RETRIEVE}
+use Rattle.rules.specs.Commands.{operation_number}
+use Rattle.calls.proofs.Together.{in_parts, step_read, front_read}
+use Rattle.calls.proofs.Done.{refused_step}
 use Rattle.calls.proofs.call.call_assuming.Goals as goal
 
-pub returns-then-refused : goal.returns-then-refused
-returns-then-refused c =
-    λ is. in_parts (refused_step _ _ _ _ (c.refusal_of-status.ensures _ is) c.if-refused.true c.reported_by.ensures)
+pub returns-in-Err : goal.returns-in-Err
+returns-in-Err c = λ is. rw c.refused_by.ensures (in_parts (refused_step _ _ c.in-Err.reason (c.in-Err.ensures.status _ is)))
 
-pub returns-then-operation-lt-ENTER : goal.returns-then-operation-lt-ENTER
-returns-then-operation-lt-ENTER c =
-    λ is.
-    front_parts _ _ _ _ (omega (arith, c.if-operation-lt-ENTER.true)) (omega (arith, c.if-operation-lt-ENTER.true))
-    (c.task_call.ensures _ _ (sym (c.refusal_of-status.ensures _ is) ∙ c.if-refused.false))
+pub returns-in-Start : goal.returns-in-Start
+returns-in-Start c = λ is. front_read _ _ _ _ _ (c.in-Ok.ensures.read) (c.in-Ok.ensures.status _ is) (search (rules, c.in-Start.is)) (search (rules, c.in-Start.is)) c.task_call.ensures
 
-pub returns-then-operation-eq-ENTER : goal.returns-then-operation-eq-ENTER
-returns-then-operation-eq-ENTER c =
-    λ is.
-    front_parts _ _ _ _ (omega (arith, c.if-operation-eq-ENTER.true)) (omega (arith, c.if-operation-eq-ENTER.true))
-    (c.enter_call.ensures _ _ (sym (c.refusal_of-status.ensures _ is) ∙ c.if-refused.false))
+pub returns-in-Enter : goal.returns-in-Enter
+returns-in-Enter c = λ is. front_read _ _ _ _ _ (c.in-Ok.ensures.read) (c.in-Ok.ensures.status _ is) (search (rules, c.in-Enter.is)) (search (rules, c.in-Enter.is)) c.enter_call.ensures
 
-pub exit_call-requires : goal.exit_call-requires
-exit_call-requires c = omega (arith, c.if-operation-lt-SEND.true, c.if-operation-eq-ENTER.false, c.if-operation-lt-ENTER.false)
+pub returns-in-Exit : goal.returns-in-Exit
+returns-in-Exit c = λ is. front_read _ _ _ _ _ (c.in-Ok.ensures.read) (c.in-Ok.ensures.status _ is) (search (rules, c.in-Exit.is)) (search (rules, c.in-Exit.is)) c.exit_call.ensures
 
-pub returns-then-operation-lt-SEND : goal.returns-then-operation-lt-SEND
-returns-then-operation-lt-SEND c =
-    λ is.
-    front_parts _ _ _ _ (omega (arith, c.if-operation-lt-SEND.true)) (omega (arith, c.if-operation-lt-SEND.true))
-    (c.exit_call.ensures _ _ (sym (c.refusal_of-status.ensures _ is) ∙ c.if-refused.false))
+pub returns-in-Send : goal.returns-in-Send
+returns-in-Send c = λ is. step_read _ _ _ (c.in-Ok.ensures.read) (c.in-Ok.ensures.status _ is) c.send_call.ensures
 
-pub returns-then-sends : goal.returns-then-sends
-returns-then-sends c = λ is. c.send_call.ensures (sym (c.refusal_of-status.ensures _ is) ∙ c.if-refused.false)
+pub returns-in-Retrieve : goal.returns-in-Retrieve
+returns-in-Retrieve c = λ is. step_read _ _ _ (c.in-Ok.ensures.read) (c.in-Ok.ensures.status _ is) c.retrieve_call.ensures
 
-pub returns-then-operation-eq-RETRIEVE : goal.returns-then-operation-eq-RETRIEVE
-returns-then-operation-eq-RETRIEVE c =
-    λ is. c.retrieve_call.ensures (sym (c.refusal_of-status.ensures _ is) ∙ c.if-refused.false)
+pub returns-in-Arm : goal.returns-in-Arm
+returns-in-Arm c = λ is. front_read _ _ _ _ _ (c.in-Ok.ensures.read) (c.in-Ok.ensures.status _ is) (search (rules, c.in-Arm.is)) (search (rules, c.in-Arm.is)) c.timer_call.ensures
 
-pub returns-then-operation-lt-TICK : goal.returns-then-operation-lt-TICK
-returns-then-operation-lt-TICK c =
-    λ is.
-    front_parts _ _ _ _ c.if-sends.false c.if-operation-eq-RETRIEVE.false
-    (c.timer_call.ensures _ _ (sym (c.refusal_of-status.ensures _ is) ∙ c.if-refused.false))
-
-pub returns : goal.returns
-returns c =
-    λ is.
-    let accepted = sym (c.refusal_of-status.ensures _ is) ∙ c.if-refused.false in
-    front_parts _ _ _ _ c.if-sends.false c.if-operation-eq-RETRIEVE.false
-    (c.tick_call.ensures _ (is_tick_lem _ _ accepted c.if-operation-lt-TICK.false) _ _ accepted)
+pub returns-in-Tick : goal.returns-in-Tick
+returns-in-Tick c = λ is. front_read _ _ _ _ _ (c.in-Ok.ensures.read) (c.in-Ok.ensures.status _ is) (search (rules, c.in-Tick.is)) (search (rules, c.in-Tick.is)) (c.tick_call.ensures _ (search (rules, c.in-Tick.is)))

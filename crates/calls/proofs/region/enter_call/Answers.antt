@@ -1,12 +1,15 @@
 -- The region or the caller's entry of awaits is written, and the election is that of the table after it.
-use Rattle.std.proofs.Common.{ap}
-use Rattle.tables.specs.Fronts.{whole, front_done}
+use Rattle.std.proofs.Common.{◌∙◌, sym, inl, inr}
+use Rattle.tables.specs.Fronts.{whole}
 use Rattle.calls.proofs.Done.{enter_step}
+use Rattle.rules.specs.Commands.{its_call}
 use Rattle.calls.proofs.region.enter_call.Goals as goal
+use Rattle.calls.proofs.region.enter_call.Goals.{then-waits, else-waits}
 
 pub returns : goal.returns
 returns c =
     λ es cs z.
-    ap front_done (enter_step (whole c.args.t es cs) c.args.k z c.requires c.wrapping_add_u8-mine.ensures.value
-    c.held_by_other-waits.ensures c.entered-after.ensures c.pick.ensures c.pick-2.ensures c.closed_held-v.ensures
-    c.elect_now-next.ensures)
+    sym c.elect_afresh-answer.ensures
+    ∙ enter_step (whole c.args.t es cs) (its_call c.args.k) z c.requires c.if-waits.t c.held_by_other-waits.ensures c.entered-after.ensures
+    (elim c.if-waits.branch [ then-waits w ↦ inl (w.if-waits.true, w.t-is) | else-waits w ↦ inr (w.if-waits.false, w.t-is) ])
+    c.from.ensures

@@ -1,15 +1,11 @@
--- A piece lies within the input and fits behind what is kept, and no more than may be is kept; each piece has a byte at least.
-use Rattle.std.proofs.Common.{length, ◌-◌, ◌≤◌}
-use Rattle.session.specs.Run.{most_kept}
+-- Each piece that came is counted.
+use Rattle.std.proofs.Common.{length, ◌≡◌}
 use Rattle.cases.proofs.feed.run.Given as goal
 
-abbrev pub invariant-loop-at : goal.invariant-loop-at
-invariant-loop-at l =
+abbrev pub invariant-loop-part : goal.invariant-loop-part
+invariant-loop-part l =
     record {
-      inside : l.at ≤ length l.input;
-      counted : l.pieces ≤ l.at;
-      few : l.kept ≤ most_kept;
+      can_next : (goal.iterator-loop-part).can_next l.part-iterator;
+      is_finite : (goal.iterator-loop-part).is_finite l.part-iterator;
+      counted : l.pieces ≡ length l.yielded;
     }
-
-abbrev pub decreases-loop-at : goal.decreases-loop-at
-decreases-loop-at l = length l.input - l.at

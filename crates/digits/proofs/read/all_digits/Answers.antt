@@ -1,16 +1,15 @@
--- The flag so far is the test of every character passed.
-use borrow.Author.Rules.{rules}
-use Rattle.rules.specs.Words.{every}
-use Rattle.rules.proofs.Counts.{ends}
-use Rattle.rules.proofs.Lists.{every_again, every_end}
+-- What the fold makes is the test of every character.
+use Rattle.std.proofs.Common.{◌≡◌, true, ◌&&◌, ◌∙◌, rules}
+use Rattle.std.proofs.lemmas.Iterator.{YieldsList-from_slice}
+use Rattle.std.proofs.lemmas.Iterator.Consumers.{fold_from_yields_List}
+use Rattle.std.specs.List.{fold}
+use Rattle.digits.specs.Digits.{is_digit}
+use Rattle.digits.proofs.Folds.{every_folded}
 use Rattle.digits.proofs.read.all_digits.Goals as goal
 
-pub loop-i-init : goal.loop-i-init
-unfolding every
-loop-i-init c = search rules
-
-pub loop-i-preserved : goal.loop-i-preserved
-loop-i-preserved c = search (every_again, ends)
-
 pub returns : goal.returns
-returns c = search (every_end, ends)
+returns c =
+    let s = c.args.s.now in
+    let all : c.fold.result ≡ fold (λ ok b. ok && is_digit b) true s =
+    fold_from_yields_List _ (λ ok b. ok && is_digit b) true _ c.fold.ensures.ran (YieldsList-from_slice s (cc)) (λ a x b q h. search rules) in
+    all ∙ every_folded is_digit s

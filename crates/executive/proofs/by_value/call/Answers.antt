@@ -5,4 +5,4 @@ use Rattle.executive.proofs.by_value.call.Goals as goal
 pub returns : goal.returns
 returns c =
     let did = c.call_checked-d.ensures in
-    put_together c.args.t c.args.k _ c.front_of.ensures _ did.front _ did.elements _ did.criteria _ c.table_of.ensures
+    put_together c.args.t c.args.k _ c.front_of.ensures _ c.store_of-store.ensures _ did.front _ did.elements _ did.criteria _ c.table_of.ensures

@@ -1,8 +1,5 @@
 -- Each number's digits come to stand behind those before them, and the line feed behind them all.
-use borrow.Author.Rules.{rules}
-use mathlib.Core.Path.{◌∙◌, ap}
-use native.Mathlib.Omega.{arith}
-use lib.ListN.{length}
+use Rattle.std.proofs.Common.{rules, ◌∙◌, ap, arith, length}
 use Rattle.frames.proofs.Written.{answer_written, answer_length_lem}
 use Rattle.frames.proofs.answer.fill.Goals as goal
 

@@ -1,6 +1,5 @@
 -- The parts together are the table.
-use Prim.Native.Nat.{ℕ}
-use mathlib.Core.Path.{◌∙◌}
+use Rattle.std.proofs.Common.{ℕ, ◌∙◌}
 use lib.ListN.{length-replicate}
 use Rattle.rules.specs.Numbers.{store_size}
 use Rattle.layout.proofs.Reading.{parts_read}

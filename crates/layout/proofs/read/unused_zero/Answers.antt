@@ -1,22 +1,17 @@
--- The flag so far is the test of every timer passed.
-use borrow.Author.Rules.{rules}
-use mathlib.Core.Path.{ap}
+-- Each timer's byte is tested.
+use Rattle.std.proofs.Common.{ℕ, ◌+◌, ◌*◌, Bool, get_or, refl, ◌∙◌, rules, tests}
+use Rattle.std.proofs.lemmas.Iterator.{YieldsList-from_range}
+use Rattle.std.proofs.lemmas.Iterator.Search.{all_from_yields_List}
 use Rattle.rules.specs.Numbers.{timer_room}
-use Rattle.rules.specs.Words.{is_zero, below}
-use Rattle.rules.proofs.Counts.{below_again, below_end}
-use Rattle.layout.specs.Layout.{unused_zero}
-use Rattle.layout.proofs.read.unused_zero.Invariants.{unused}
+use Rattle.rules.specs.Words.{is_zero}
+use Rattle.packing.specs.Timers.{timer_width, unused_place}
+use Rattle.layout.specs.Layout.{timers_place, unused_zero}
+use Rattle.layout.proofs.Unused.{all_below}
 use Rattle.layout.proofs.read.unused_zero.Goals as goal
-
-pub loop-i-init : goal.loop-i-init
-unfolding below
-loop-i-init c = search rules
-
-pub loop-i-preserved : goal.loop-i-preserved
-loop-i-preserved c =
-    (search rules, below_again c.loop-i.i (unused c.args.block.now) _ _ c.loop-i.invariant.1 (ap is_zero c.byte_at-b.ensures))
 
 pub returns : goal.returns
 unfolding unused_zero
 returns c =
-    below_end c.loop-i.i timer_room (unused c.args.block.now) _ c.loop-i.invariant.1 (search rules) (search rules)
+    let p : ℕ → Bool = λ i. is_zero (get_or c.args.block.now (timers_place + timer_width * i + unused_place) 0) in
+    all_from_yields_List p _ _ _ c.all.ensures.ran (YieldsList-from_range 0 timer_room timer_room refl refl) (λ x b q k. search (rules, tests))
+    ∙ all_below p timer_room

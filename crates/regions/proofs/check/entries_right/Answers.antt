@@ -1,19 +1,15 @@
--- The flag so far is the test of every region passed.
-use Rattle.std.proofs.Common.{rules}
+-- The fold tests every region.
+use Rattle.std.proofs.Common.{rules, tests}
+use Rattle.std.proofs.lemmas.Iterator.{YieldsList-from_slice, YieldsList-from_zip}
 use Rattle.rules.specs.Numbers.{region_room}
-use Rattle.rules.specs.Words.{below}
-use Rattle.rules.proofs.Counts.{below_again, below_end}
+use Rattle.rules.specs.Validity.{entries_fit}
 use Rattle.rules.specs.Checks.{entries_everywhere}
+use Rattle.rules.proofs.Folds.{below_zip}
 use Rattle.regions.proofs.check.entries_right.Goals as goal
-
-pub loop-i-init : goal.loop-i-init
-unfolding below
-loop-i-init c = search rules
-
-pub loop-i-preserved : goal.loop-i-preserved
-loop-i-preserved c =
-    (search rules, below_again _ _ _ _ c.loop-i.invariant.1 c.entries_fit-fits.ensures)
 
 pub returns : goal.returns
 unfolding entries_everywhere
-returns c = below_end _ region_room _ _ c.loop-i.invariant.1 (search rules) (search rules)
+returns c =
+    let t = c.args.f.now in
+    below_zip _ entries_fit region_room t.holder t.entries (search rules) (search rules) c.fold.ensures.ran
+    (YieldsList-from_zip (YieldsList-from_slice t.holder cc) (YieldsList-from_slice t.entries cc)) (λ a x b q h. search (rules, tests))

@@ -10,13 +10,13 @@ use Rattle.regions.proofs.check.holder_right.Goals as goal
 pub returns-then-v-eq0 : goal.returns-then-v-eq0
 returns-then-v-eq0 c = no_holder _ _ _ c.if-v-eq0.true
 
-pub returns-then-tasks-v : goal.returns-then-tasks-v
-returns-then-tasks-v c = holder_past _ _ _ c.if-v-eq0.false c.if-tasks-v.true
+pub returns-then-f-v : goal.returns-then-f-v
+returns-then-f-v c = holder_past _ _ _ c.if-v-eq0.false c.if-f-v.true
 
 pub returns-then-i-lt-TASKS : goal.returns-then-i-lt-TASKS
 returns-then-i-lt-TASKS c =
-    holder_is _ _ _ c.if-v-eq0.false c.if-tasks-v.false (sym (ready_is _ _ (search rules) _))
+    holder_is _ _ _ c.if-v-eq0.false c.if-f-v.false (sym (ready_is _ _ (search rules) _))
 
 pub returns-else-i-lt-TASKS : goal.returns-else-i-lt-TASKS
 returns-else-i-lt-TASKS c =
-    holder_is _ _ _ c.if-v-eq0.false c.if-tasks-v.false (let a = c.args in unready (states_with a.awaits.now a.state.now) (a.v - 1) (rw length_states (search ends)))
+    holder_is _ _ _ c.if-v-eq0.false c.if-f-v.false (let a = c.args in unready (states_with a.f.now.awaits a.f.now.state) (a.v - 1) (rw length_states (search ends)))

@@ -1,19 +1,14 @@
--- The flag so far is the test of every region passed.
-use Rattle.std.proofs.Common.{rules}
+-- The fold tests every region.
+use Rattle.std.proofs.Common.{rules, tests}
+use Rattle.std.proofs.lemmas.Iterator.{YieldsList-from_slice, YieldsList-from_zip}
 use Rattle.rules.specs.Numbers.{region_room}
-use Rattle.rules.specs.Words.{below}
-use Rattle.rules.specs.Checks.{open_holders_fit}
-use Rattle.rules.proofs.Counts.{below_again, below_end}
+use Rattle.rules.specs.Checks.{open_holder_fits, open_holders_fit}
+use Rattle.rules.proofs.Folds.{below_zip}
 use Rattle.regions.proofs.check.open_holders_right.Goals as goal
-
-pub loop-i-init : goal.loop-i-init
-unfolding below
-loop-i-init c = search rules
-
-pub loop-i-preserved : goal.loop-i-preserved
-loop-i-preserved c =
-    (search rules, below_again _ _ _ _ c.loop-i.invariant.1 c.open_holder_fits-fits.ensures)
 
 pub returns : goal.returns
 unfolding open_holders_fit
-returns c = below_end _ region_room _ _ c.loop-i.invariant.1 (search rules) (search rules)
+returns c =
+    let t = c.args.f.now in
+    below_zip _ (open_holder_fits t.tasks t.state) region_room t.opened t.holder (search rules) (search rules) c.fold.ensures.ran
+    (YieldsList-from_zip (YieldsList-from_slice t.opened cc) (YieldsList-from_slice t.holder cc)) (λ a x b q h. search (rules, tests))

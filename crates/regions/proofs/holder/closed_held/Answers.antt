@@ -1,25 +1,20 @@
--- The closed regions passed are free, so what is left says the same as the whole.
-use Rattle.std.proofs.Common.{sym, ◌∙◌, rules}
-use Rattle.rules.specs.Urgency.{closed_holders}
-use Rattle.rules.proofs.States.{closed_at, length_closed}
-use Rattle.regions.proofs.Holders.{held_again, held_here, held_end}
+-- The first entry that is not 0 is the first occupied closed region's.
+use Rattle.std.proofs.Common.{ℕ, ◌≡◌, cond, map, ◌∙◌, rules, tests}
+use Rattle.std.proofs.lemmas.Iterator.{YieldsList-from_slice, YieldsList-from_zip, YieldsList-from_map, first_from_find}
+use Rattle.std.proofs.lemmas.Iterator.Consumers.{YieldsList-at}
+use Rattle.std.specs.List.{zip}
+use Rattle.rules.specs.Urgency.{is_open}
+use Rattle.regions.proofs.Holders.{held_found, closed_pairs}
 use Rattle.regions.proofs.holder.closed_held.Goals as goal
-
-pub returns-then-occupied : goal.returns-then-occupied
-returns-then-occupied c =
-    let a = c.args in
-    held_here c.loop-i.i (closed_holders a.opened.now a.holder.now) (c.closed_entry-h.ensures ∙ sym (closed_at a.opened.now a.holder.now c.loop-i.i (search rules))) (rw
-    length_closed (search rules)) c.if-occupied.true c.loop-i.invariant.1
-
-pub loop-i-preserved : goal.loop-i-preserved
-loop-i-preserved c =
-    let a = c.args in (
-      search rules,
-      held_again c.loop-i.i (closed_holders a.opened.now a.holder.now) (c.closed_entry-h.ensures ∙ sym (closed_at a.opened.now a.holder.now c.loop-i.i (search rules)))
-          (rw length_closed (search rules)) c.if-occupied.false c.loop-i.invariant.1,
-    )
 
 pub returns : goal.returns
 returns c =
-    let a = c.args in
-    held_end c.loop-i.i (closed_holders a.opened.now a.holder.now) (rw length_closed (search rules)) c.loop-i.invariant.1
+    let t = c.args.f.now in
+    let closed = closed_pairs t.opened t.holder (search rules) (search rules) in
+    let first = held_found (map (λ (z : ℕ × ℕ). cond (is_open z.0) 0 z.1) (zip t.opened t.holder)) c.find.result
+    (first_from_find c.find.new.self _ _ (λ h. h ≡ 0 → ⊥) (λ h. h ≡ 0) c.find.ensures.ran
+    (YieldsList-from_map _ (λ (z : ℕ × ℕ). cond (is_open z.0) 0 z.1)
+    (YieldsList-at c.map.ensures.source (YieldsList-from_zip (YieldsList-from_slice t.opened cc) (YieldsList-from_slice t.holder cc))) c.map.ensures.closure
+    (λ x r q k. search (rules, tests)))
+    (λ x q k. search (rules, tests)) (λ x q k. search (rules, tests))) in
+    c.unwrap_or.ensures ∙ rw closed at first

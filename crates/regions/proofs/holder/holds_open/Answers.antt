@@ -1,19 +1,21 @@
--- The regions passed are none that the task holds, as far as the flag says.
-use Rattle.std.proofs.Common.{not, ap, rules}
+-- The fold asks every region.
+use Rattle.std.proofs.Common.{◌≡◌, false, not, ◌&&◌, ◌||◌, refl, rules, tests}
+use Rattle.std.proofs.lemmas.Iterator.{YieldsList-from_slice, YieldsList-from_zip}
+use Rattle.std.proofs.lemmas.Iterator.Consumers.{fold_from_yields_List}
+use Rattle.std.specs.List.{zip, fold}
 use Rattle.rules.specs.Numbers.{region_room}
-use Rattle.rules.specs.Words.{below}
-use Rattle.rules.specs.Urgency.{holds_open}
-use Rattle.rules.proofs.Counts.{below_again, below_end}
+use Rattle.rules.specs.Words.{below, names}
+use Rattle.rules.specs.Urgency.{is_open, holding, holds_open}
+use Rattle.rules.proofs.Folds.{fold_zip}
+use Rattle.regions.proofs.Holders.{one_more}
 use Rattle.regions.proofs.holder.holds_open.Goals as goal
 
-pub loop-i-init : goal.loop-i-init
-unfolding below
-loop-i-init c = search rules
-
-pub loop-i-preserved : goal.loop-i-preserved
-loop-i-preserved c =
-    (search rules, below_again _ _ _ _ c.loop-i.invariant.1 (ap not c.holds_it.ensures))
-
 pub returns : goal.returns
-unfolding holds_open
-returns c = ap not (below_end _ region_room _ _ c.loop-i.invariant.1 (search rules) (search rules))
+unfolding holds_open below
+returns c =
+    let t = c.args.f.now in
+    let folds : c.fold.result ≡ fold (λ holds z. holds || (is_open z.0 && names z.1 c.args.task)) false (zip t.opened t.holder) =
+    fold_from_yields_List _ (λ holds z. holds || (is_open z.0 && names z.1 c.args.task)) false _ c.fold.ensures.ran
+    (YieldsList-from_zip (YieldsList-from_slice t.opened cc) (YieldsList-from_slice t.holder cc)) (λ a x b q h. search (rules, tests)) in
+    fold_zip _ (λ n. not (below n (λ r. not (holding t.opened t.holder c.args.task r)))) region_room t.opened t.holder (search rules) (search rules) folds refl
+    (λ i l. one_more (below i (λ r. not (holding t.opened t.holder c.args.task r))) _)

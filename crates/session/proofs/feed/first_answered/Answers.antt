@@ -1,39 +1,22 @@
--- The first line is answers_to, or one of three things is missing.
+-- The first line is answered, or one of three things is missing.
+use Rattle.std.proofs.Common.{sym, ◌∙◌}
 use Rattle.session.proofs.FirstAnswer.{first_begun, first_no_room, first_no_line, first_written}
 use Rattle.session.proofs.feed.first_answered.Goals as goal
 
-pub returns-then-s-clause-result : goal.returns-then-s-clause-result
-returns-then-s-clause-result c = (first_begun _ _ _ _ _ c.if-s.true c.progress_of.ensures).0
+pub returns-then-s : goal.returns-then-s
+returns-then-s c = let a = first_begun _ _ _ _ _ c.if-s.true c.progress_of.ensures in record { result = a.0; answers = a.1 }
 
-pub returns-then-s-clause-answers : goal.returns-then-s-clause-answers
-returns-then-s-clause-answers c = (first_begun _ _ _ _ _ c.if-s.true c.progress_of.ensures).1
+pub returns-then-out-lt-ANSWER : goal.returns-then-out-lt-ANSWER
+returns-then-out-lt-ANSWER c =
+    let a = first_no_room _ _ _ _ _ c.if-s.false c.if-out-lt-ANSWER.true c.progress_of-then-out-lt-ANSWER.ensures in
+    record { result = a.0; answers = a.1 }
 
-pub returns-then-out-lt-ANSWER-clause-result : goal.returns-then-out-lt-ANSWER-clause-result
-returns-then-out-lt-ANSWER-clause-result c = (first_no_room _ _ _ _ _ c.if-s.false c.if-out-lt-ANSWER.true c.progress_of-then-out-lt-ANSWER.ensures).0
+pub returns-in-None : goal.returns-in-None
+returns-in-None c =
+    let a = first_no_line _ _ _ _ _ c.if-s.false c.if-out-lt-ANSWER.false (sym c.in-None.is ∙ c.first_line_at.ensures) c.progress_of-in-None.ensures in
+    record { result = a.0; answers = a.1 }
 
-pub returns-then-out-lt-ANSWER-clause-answers : goal.returns-then-out-lt-ANSWER-clause-answers
-returns-then-out-lt-ANSWER-clause-answers c = (first_no_room _ _ _ _ _ c.if-s.false c.if-out-lt-ANSWER.true c.progress_of-then-out-lt-ANSWER.ensures).1
-
-pub returns-then-next-eq0-clause-result : goal.returns-then-next-eq0-clause-result
-returns-then-next-eq0-clause-result c = (
-    first_no_line _ _ _ _ _ c.if-s.false c.if-out-lt-ANSWER.false _ c.first_line_at-r.ensures c.if-next-eq0.true
-    c.progress_of-then-next-eq0.ensures
-    ).0
-
-pub returns-then-next-eq0-clause-answers : goal.returns-then-next-eq0-clause-answers
-returns-then-next-eq0-clause-answers c = (
-    first_no_line _ _ _ _ _ c.if-s.false c.if-out-lt-ANSWER.false _ c.first_line_at-r.ensures c.if-next-eq0.true
-    c.progress_of-then-next-eq0.ensures
-    ).1
-
-pub returns-clause-result : goal.returns-clause-result
-returns-clause-result c = (
-    first_written _ _ _ _ _ c.if-s.false c.if-out-lt-ANSWER.false _ c.first_line_at-r.ensures c.if-next-eq0.false _
-    c.put_answer.ensures c.progress_of-2.ensures
-    ).0
-
-pub returns-clause-answers : goal.returns-clause-answers
-returns-clause-answers c = (
-    first_written _ _ _ _ _ c.if-s.false c.if-out-lt-ANSWER.false _ c.first_line_at-r.ensures c.if-next-eq0.false _
-    c.put_answer.ensures c.progress_of-2.ensures
-    ).1
+pub returns-in-Some : goal.returns-in-Some
+returns-in-Some c =
+    let a = first_written _ _ _ _ _ c.if-s.false c.if-out-lt-ANSWER.false _ (sym c.in-Some.is ∙ c.first_line_at.ensures) _ c.put_answer.ensures c.progress_of-in-Some.ensures in
+    record { result = a.0; answers = a.1 }

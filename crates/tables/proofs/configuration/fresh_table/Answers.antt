@@ -1,5 +1,5 @@
 -- What a configuration does not set is as in the table of zeros, but for task 0, which is ready.
-use mathlib.Core.Path.{refl}
+use Rattle.std.proofs.Common.{refl}
 use Rattle.rules.specs.Words.{padded}
 use Rattle.rules.specs.Fresh.{zero_table}
 use Rattle.tables.proofs.configuration.fresh_table.Goals as goal

@@ -1,5 +1,5 @@
 -- Every array is made of zeros.
-use mathlib.Core.Path.{refl}
+use Rattle.std.proofs.Common.{refl}
 use Rattle.rules.specs.Fresh.{zero_table}
 use Rattle.tables.proofs.configuration.zero_table.Goals as goal
 

@@ -1,5 +1,5 @@
 -- The flag so far is the test of every task passed; with what is 0 past the count it is the whole test.
-use borrow.Author.Rules.{rules}
+use Rattle.std.proofs.Common.{rules}
 use Rattle.rules.specs.Numbers.{task_room}
 use Rattle.rules.specs.Words.{below}
 use Rattle.rules.proofs.Counts.{below_again, below_end}
@@ -11,7 +11,7 @@ unfolding below
 loop-i-init c = search rules
 
 pub loop-i-preserved : goal.loop-i-preserved
-loop-i-preserved c = (search rules, below_again _ _ _ _ c.loop-i.invariant.1 c.row_fits-fits.ensures)
+loop-i-preserved c = (search rules, below_again _ _ _ _ c.loop-i.invariant.1 (c.row_fits-ok.ensures _ (search rules)))
 
 pub returns : goal.returns
 returns c = tasks_is _ _ _ _ _ _ (below_end _ task_room _ _ c.loop-i.invariant.1 (search rules) (search rules)) c.rest_zero-rest.ensures

@@ -1,5 +1,5 @@
 -- What is listed and has arrived is taken away, which is never more than has arrived.
-use mathlib.Core.Path.{refl}
+use Rattle.std.proofs.Common.{refl}
 use lib.Bits.{and_le_l}
 use Rattle.rules.specs.Events.{cleared}
 use Rattle.tasks.proofs.effect.cleared_by.Goals as goal

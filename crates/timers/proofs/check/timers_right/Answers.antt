@@ -8,36 +8,36 @@ use Rattle.rules.proofs.Lists.{every_again, every_out, every_end}
 use Rattle.timers.proofs.Fits.{judged}
 use Rattle.timers.proofs.check.timers_right.Goals as goal
 
-pub loop-i-init : goal.loop-i-init
+pub loop-r-init : goal.loop-r-init
 unfolding every
-loop-i-init c = search rules
+loop-r-init c = search rules
 
-pub returns-then-not-fits : goal.returns-then-not-fits
+pub returns-then-not-timer_fits : goal.returns-then-not-timer_fits
 unfolding timers_right
-returns-then-not-fits c =
+returns-then-not-timer_fits c =
     let owners = c.owners_of-owners in
-    let a = c.args in
-    let right = timer_right a.tasks a.state.now a.ticks in
+    let f = c.args.f.now in
+    let right = timer_right f.tasks f.state f.ticks in
     let fits =
-    judged a.tasks owners.result a.ticks a.state.now _ owners.ensures (search rules) c.state_at-its.ensures
-    c.timer_fits-fits.ensures in
-    rw (lt-ltb a.ticks tick_end (search rules))
-    (every_out right c.loop-i.i a.timers idle fits (search rules) (c.if-not-fits.true))
+    judged f.tasks owners.result f.ticks f.state _ owners.ensures (search rules) c.state_at-its.ensures
+    c.timer_fits.ensures in
+    rw (lt-ltb f.ticks tick_end (search rules))
+    (every_out right c.loop-r.r-index f.timers idle fits (search rules) (c.if-not-timer_fits.true))
 
-pub loop-i-preserved : goal.loop-i-preserved
-loop-i-preserved c =
+pub loop-r-preserved : goal.loop-r-preserved
+loop-r-preserved c =
     let owners = c.owners_of-owners in
-    let a = c.args in
-    let right = timer_right a.tasks a.state.now a.ticks in
+    let f = c.args.f.now in
+    let right = timer_right f.tasks f.state f.ticks in
     let fits =
-    judged a.tasks owners.result a.ticks a.state.now _ owners.ensures (search rules) c.state_at-its.ensures
-    c.timer_fits-fits.ensures in
-    let again = every_again right c.loop-i.i a.timers idle c.loop-i.invariant.1 fits (search rules) in
-    (search rules, sym (c.if-not-fits.false) ∙ again)
+    judged f.tasks owners.result f.ticks f.state _ owners.ensures (search rules) c.state_at-its.ensures
+    c.timer_fits.ensures in
+    let again = every_again right c.loop-r.r-index f.timers idle c.loop-r.invariant.1 fits (search rules) in
+    (search rules, sym (c.if-not-timer_fits.false) ∙ again)
 
 pub returns : goal.returns
 unfolding timers_right
 returns c =
-    let a = c.args in
-    rw (lt-ltb a.ticks tick_end (search rules))
-    (every_end (timer_right a.tasks a.state.now a.ticks) c.loop-i.i a.timers c.loop-i.invariant.1 (search rules))
+    let f = c.args.f.now in
+    rw (lt-ltb f.ticks tick_end (search rules))
+    (every_end (timer_right f.tasks f.state f.ticks) c.loop-r.r-index f.timers c.loop-r.invariant.1 (search rules))

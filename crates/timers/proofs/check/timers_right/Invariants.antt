@@ -5,5 +5,5 @@ use Rattle.rules.specs.Numbers.{timer_room}
 use Rattle.rules.specs.Validity.{timer_right}
 use Rattle.timers.proofs.check.timers_right.Given as goal
 
-abbrev pub invariant-loop-i : goal.invariant-loop-i
-invariant-loop-i l = (l.i ≤ timer_room) × (true ≡ every (timer_right l.tasks l.state l.ticks) (take l.i l.timers))
+abbrev pub invariant-loop-r : goal.invariant-loop-r
+invariant-loop-r l = (l.r-index ≤ timer_room) × (true ≡ every (timer_right l.f.tasks l.f.state l.f.ticks) (take l.r-index l.r-items))

@@ -22,8 +22,8 @@ region_urgency-loop-i-preserved t c = (
   elim c.if-names_it.branch [
     | region_urgency-then-names_it w ↦
         w.least-is
-        ∙ w.lesser-least.ensures
-        ∙ smallest_taken _ _ _ c.loop-i.invariant.1 (sym w.if-names_it.true ∙ c.names_it.ensures) w.task_urgency-u.ensures
+        ∙ w.min-least.ensures
+        ∙ smallest_taken _ _ _ c.loop-i.invariant.1 (sym w.if-names_it.true ∙ c.names_it.ensures) (w.from.ensures ∙ w.task_urgency-u.ensures)
     | region_urgency-else-names_it w ↦
         w.least-is ∙ smallest_left _ _ _ c.loop-i.invariant.1 (sym w.if-names_it.false ∙ c.names_it.ensures)
   ],
@@ -43,7 +43,7 @@ task_urgency-loop-r-preserved t c = (
   elim c.if-holds_it.branch [
     | task_urgency-then-holds_it w ↦
         w.least-is
-        ∙ w.lesser-least.ensures
+        ∙ w.min-least.ensures
         ∙ smallest_taken _ _ _ c.loop-r.invariant.1 (sym w.if-holds_it.true ∙ c.holds_it.ensures) w.region_urgency.ensures
     | task_urgency-else-holds_it w ↦
         w.least-is ∙ smallest_left _ _ _ c.loop-r.invariant.1 (sym w.if-holds_it.false ∙ c.holds_it.ensures)
@@ -52,4 +52,4 @@ task_urgency-loop-r-preserved t c = (
 
 pub task_urgency-returns : goal.task_urgency-returns
 task_urgency-returns t c =
-    task_asks _ _ _ _ _ _ (smallest_end _ region_room _ _ _ c.loop-r.invariant.1 (search rules) (search rules)) c.lesser_byte.ensures
+    task_asks _ _ _ _ _ _ (smallest_end _ region_room _ _ _ c.loop-r.invariant.1 (search rules) (search rules)) (rw c.from.ensures at c.min.ensures)

@@ -15,9 +15,9 @@ decreases-task_urgency l = l.left + l.left + 1
 abbrev pub invariant-region_urgency-loop-i : goal.invariant-region_urgency-loop-i
 invariant-region_urgency-loop-i l =
     (l.i ≤ task_room)
-    × (l.least ≡ smallest l.i (awaiting l.awaits l.r) (task_urgency l.priority l.awaits l.opened l.holder (l.left - 1)))
+    × (l.least ≡ smallest l.i (awaiting l.f.awaits l.r) (task_urgency l.f.priority l.f.awaits l.f.opened l.f.holder (l.left - 1)))
 
 abbrev pub invariant-task_urgency-loop-r : goal.invariant-task_urgency-loop-r
 invariant-task_urgency-loop-r l =
     (l.r ≤ region_room)
-    × (l.least ≡ smallest l.r (holding l.opened l.holder l.i) (region_urgency l.priority l.awaits l.opened l.holder l.left))
+    × (l.least ≡ smallest l.r (holding l.f.opened l.f.holder l.i) (region_urgency l.f.priority l.f.awaits l.f.opened l.f.holder l.left))

@@ -1,12 +1,10 @@
--- Where nobody waits both tests pass, by the laws; else both are made.
-use mathlib.Core.Path.{sym, ap₂, ◌∙◌}
-use mathlib.Core.Bool.{◌&&◌}
-use Rattle.urgency.proofs.Steps.{no_circle_quiet}
+-- Where nobody waits both tests pass, by the laws.
+use Rattle.std.proofs.Common.{sym, ◌∙◌}
+use Rattle.urgency.proofs.Quiet.{no_circle_quiet}
 use Rattle.urgency.proofs.Quiet.{awaits_quiet}
 use Rattle.urgency.proofs.check.waiting_right.Goals as goal
 
 pub returns-then-nobody_awaits : goal.returns-then-nobody_awaits
-returns-then-nobody_awaits c = let nobody = sym c.nobody_awaits.ensures ∙ c.if-nobody_awaits.true in rw (awaits_quiet _ _ _ _ _ nobody, no_circle_quiet _ _ nobody)
-
-pub returns : goal.returns
-returns c = ap₂ (λ x y. x && y) c.awaits_right-fit.ensures c.no_circle.ensures
+returns-then-nobody_awaits c =
+    let nobody = sym c.nobody_awaits.ensures ∙ c.if-nobody_awaits.true in
+    rw (awaits_quiet _ _ _ _ _ nobody, no_circle_quiet _ _ nobody) c.if-nobody_awaits.true

@@ -1,8 +1,7 @@
 -- The choice reads the urgencies of those in line alone.
-use mathlib.Core.Path.{◌∙◌}
-use Rattle.urgency.proofs.Heirs.{heir_by_line}
+use Rattle.urgency.proofs.Heirs.{heir_chosen}
 use Rattle.urgency.proofs.heir.heir_of.Goals as goal
 
 pub returns : goal.returns
 returns c =
-    c.best_ready.ensures ∙ rw (c.line_of-waiting.ensures, c.line_urgencies-urgency.ensures) (heir_by_line _ _ _ _ _)
+    rw (← heir_chosen _ _ _ _ _ c.best_ready-first.ensures c.line_of-waiting.ensures c.line_urgencies-urgency.ensures) c.then_some.ensures

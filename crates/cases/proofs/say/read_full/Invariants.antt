@@ -1,9 +1,0 @@
--- What has been read stands within the buffer; the measure is the room that is left.
-use Rattle.std.proofs.Common.{length, ◌-◌, ◌≤◌}
-use Rattle.cases.proofs.say.read_full.Given as goal
-
-abbrev pub invariant-loop-end : goal.invariant-loop-end
-invariant-loop-end g l = l.end ≤ length l.buffer
-
-abbrev pub decreases-loop-end : goal.decreases-loop-end
-decreases-loop-end g l = length l.initial.buffer - l.end

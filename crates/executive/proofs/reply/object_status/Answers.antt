@@ -1,5 +1,0 @@
--- The picks stand from the last reason to the first.
-use Rattle.executive.proofs.reply.object_status.Goals as goal
-
-pub returns : goal.returns
-returns c = rw (c.pick.ensures, c.pick-r14.ensures)

@@ -1,9 +1,0 @@
--- The test is the definition's.
-
-use Rattle.executive.proofs.reply.one_if.Goals as goal
-
-pub returns-then-b : goal.returns-then-b
-returns-then-b c = rw c.if-b.true
-
-pub returns-else-b : goal.returns-else-b
-returns-else-b c = rw c.if-b.false

@@ -1,6 +1,0 @@
--- Each name starts behind the one before it.
-use Rattle.std.proofs.Common.{length, ◌-◌}
-use Rattle.trials.proofs.words.looked_up.Given as goal
-
-abbrev pub decreases-loop-start : goal.decreases-loop-start
-decreases-loop-start l = length l.names - l.start
