@@ -4,7 +4,6 @@ ghost use Rattle.session.specs.Run.{most_kept};
 
 use frames::ANSWER;
 use session::{KEPT, PieceEnd, Standing, at_start, finish, piece};
-use std::io;
 
 // The largest piece.
 pub(crate) const LARGEST: usize = 4096;
@@ -34,7 +33,7 @@ impl Feed {
     }
 
     // Lays a piece behind the bytes that are kept, and answers the lines that have ended.
-    fn take(&mut self, rt: HostRuntime, part: &[u8]) -> io::Result<()>
+    fn take(&mut self, rt: HostRuntime, part: &[u8])
         requires { length part.now ≤ 4096 }
     {
         let end = self.kept + part.len();
@@ -46,32 +45,26 @@ impl Feed {
         } = piece(self.standing, &mut self.buffer, end, &mut self.out);
         self.standing = standing;
         self.kept = kept;
-        rt.write_all(&self.out[..written])
+        let _ = rt.write_all(&self.out[..written]);
     }
 
     // The end of the input, at which what is kept gets its answer.
-    fn end(self, rt: HostRuntime) -> io::Result<()> {
-        let Feed {
-            standing,
-            kept,
-            buffer,
-            mut out,
-        } = self;
-        let written = finish(standing, &buffer[..kept], &mut out);
-        rt.write_all(&out[..written])
+    fn end(&mut self, rt: HostRuntime) {
+        let written = finish(self.standing, &self.buffer[..self.kept], &mut self.out);
+        let _ = rt.write_all(&self.out[..written]);
     }
 }
 
 // The input in pieces of that size, and its end. Returns how many pieces were fed.
-pub(crate) fn run(rt: HostRuntime, input: &[u8], size: usize) -> io::Result<usize>
+pub(crate) fn run(rt: HostRuntime, input: &[u8], size: usize) -> usize
     requires { (1 ≤ size) × (size ≤ 4096) }
 {
     let mut feed = Feed::new();
     let mut pieces = 0;
     for part in input.chunks(size) {
-        feed.take(rt, part)?;
+        feed.take(rt, part);
         pieces += 1;
     }
-    feed.end(rt)?;
-    Ok(pieces)
+    feed.end(rt);
+    pieces
 }

@@ -1,5 +1,5 @@
 // The input of a case, put together from its parts: files, and long lines that are made here.
-ghost use Rattle.std.specs.Prelude.{◌≤◌, length, IfOk};
+ghost use Rattle.std.specs.Prelude.{◌≤◌, length};
 
 use std::fs::File;
 use std::io;
@@ -17,43 +17,45 @@ fn opened(rt: HostRuntime, name: &[u8]) -> io::Result<File> {
 }
 
 // A file. One that isn't there is written out, so that it can't go unseen.
-fn file_laid(rt: HostRuntime, name: &[u8], rest: &mut [u8]) -> io::Result<usize>
-    ensures { IfOk result (λ n. n ≤ length rest.old) }
+fn file_laid(rt: HostRuntime, name: &[u8], rest: &mut [u8]) -> usize
+    ensures { result ≤ length rest.old }
 {
     match opened(rt, name) {
-        Ok(mut file) => Ok(read_whole(&mut file, rest).len()),
+        Ok(mut file) => read_whole(&mut file, rest).len(),
         Err(_) => {
-            println!(rt; "no file")?;
-            Ok(0)
+            let _ = println!(rt; "no file");
+            0
         }
     }
 }
 
 // A line of so many characters A and a line feed.
-fn line_laid(rt: HostRuntime, letters: usize, rest: &mut [u8]) -> io::Result<usize>
-    ensures { IfOk result (λ n. n ≤ length rest.old) }
+fn line_laid(rt: HostRuntime, letters: usize, rest: &mut [u8]) -> usize
+    ensures { result ≤ length rest.old }
 {
     if letters < rest.len() {
         rest[..letters].fill(b'A');
         rest[letters] = b'\n';
-        return Ok(letters + 1);
+        return letters + 1;
     }
     rest.fill(b'A');
-    println!(rt; "no room")?;
-    Ok(rest.len())
+    let _ = println!(rt; "no room");
+    rest.len()
 }
 
 // The parts in turn, as the words of a text name them: a number stands for so many characters A and a line feed, any other word for a file.
 // Each word ends at a space, or with the text. Returns the input.
-pub(crate) fn laid<'a>(rt: HostRuntime, text: &[u8], room: &'a mut [u8]) -> io::Result<&'a [u8]> {
+pub(crate) fn laid<'a>(rt: HostRuntime, text: &[u8], room: &'a mut [u8]) -> &'a [u8]
+    ensures { length result.now ≤ length room.old }
+{
     let mut end = 0;
     for piece in text.split_inclusive(|b| *b == b' ') {
         let word = piece.strip_suffix(b" ").unwrap_or(piece);
         let rest = &mut room[end..];
         end += match number_in(word) {
-            Some(letters) => line_laid(rt, letters as usize, rest)?,
-            None => file_laid(rt, word, rest)?,
+            Some(letters) => line_laid(rt, letters as usize, rest),
+            None => file_laid(rt, word, rest),
         };
     }
-    Ok(&room[..end])
+    &room[..end]
 }

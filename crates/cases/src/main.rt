@@ -7,11 +7,10 @@ mod input;
 mod left;
 mod list;
 
-use std::io;
 use texts::read_whole;
 
 // The list is read at once, and so can have 65,536 bytes.
-fn main(rt: HostRuntime) -> io::Result<()> {
+fn main(rt: HostRuntime) {
     let mut room = [0u8; 65536];
-    list::play(rt, read_whole(&mut rt.stdin(), &mut room))
+    list::play(rt, read_whole(&mut rt.stdin(), &mut room));
 }

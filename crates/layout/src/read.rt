@@ -16,7 +16,9 @@ use tables::{Front, Store, byte_at, table_of};
 pub fn unused_zero(block: &[u8]) -> bool
     ensures { result ≡ unused_zero block.now }
 {
-    (0..TIMERS).all(|i| byte_at(block, TIMER + TIMER_WIDTH * i + UNUSED) == 0)
+    (0..TIMERS).fold(true, |zero, i| {
+        zero & (byte_at(block, TIMER + TIMER_WIDTH * i + UNUSED) == 0)
+    })
 }
 
 // Fills the places of the queues; leaves an array as it is that the block has no room for.

@@ -117,10 +117,12 @@ fn configured(
     let priorities = priorities.get(..usize::from(tasks))?;
     let bounds = bounds.get(..usize::from(queues))?;
     let marks = marks.get(..usize::from(regions))?;
-    if !bounds.iter().all(|b| bound_right(*b)) {
+    let bounds_fit = bounds.iter().fold(true, |ok, b| ok & bound_right(*b));
+    if !bounds_fit {
         return None;
     }
-    if !marks.iter().all(|m| mark_right(*m)) {
+    let marks_fit = marks.iter().fold(true, |ok, m| ok & mark_right(*m));
+    if !marks_fit {
         return None;
     }
     Some(fresh_table(
@@ -144,11 +146,11 @@ pub fn fresh(
 ) -> Done
     ensures { result ≡ fresh_done tasks regions queues priorities.now bounds.now marks.now }
 {
-    match configured(tasks, regions, queues, priorities, bounds, marks) {
-        Some(table) => Done {
-            table: table,
-            answer: Answer::plain(0, 0),
-        },
-        None => out_of_range(),
+    let Some(table) = configured(tasks, regions, queues, priorities, bounds, marks) else {
+        return out_of_range();
+    };
+    Done {
+        table,
+        answer: Answer::plain(0, 0),
     }
 }

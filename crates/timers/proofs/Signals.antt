@@ -13,7 +13,7 @@ use Rattle.rules.proofs.Bools.{and_left, and_right, both, given}
 use Rattle.rules.proofs.Validity.{parts_of}
 use Rattle.tables.specs.declared.front.Front.{Front}
 use Rattle.tables.specs.Fronts.{whole}
-use Rattle.timers.specs.Signals.{signalled_at, rung_row, rung_rows, rows_of, with_rows, rows_in, front_with, front_signalled, front_rung, front_ticked}
+use Rattle.timers.specs.Signals.{Rows, signalled_at, rung_row, rung_rows, rows_of, with_rows, rows_in, front_with, front_signalled, front_rung, front_ticked}
 
 -- ---- one timer, as the code tests it
 
@@ -106,6 +106,15 @@ ticked_rows t v =
     let n = later t.ticks 1 in
     ap (with_timers n (map (rung n) t.timers)) (ringing_rows n t.timers t (placed_all t v))
 
+-- the same from what a counter, timers and rows are
+pub ticked_is : (t : Table) (n : ℕ) (timers : List Timer) (rows : Rows) → valid t ≡ true → n ≡ later t.ticks 1 → timers ≡ map (rung n) t.timers
+    → rows ≡ rung_rows n t.timers (rows_of t) → with_timers n timers (with_rows rows t) ≡ ticked t
+ticked_is t n timers rows v e k h =
+    ap (λ ts. with_timers n ts (with_rows rows t)) k
+    ∙ ap (λ r. with_timers n (map (rung n) t.timers) (with_rows r t)) h
+    ∙ ap (λ m. with_timers m (map (rung m) t.timers) (with_rows (rung_rows m t.timers (rows_of t)) t)) e
+    ∙ sym (ticked_rows t v)
+
 -- the same of a front
-pub ticked_is : (f : Front) (es cs : List ℕ) → valid (whole f es cs) ≡ true → whole (front_ticked f) es cs ≡ ticked (whole f es cs)
-ticked_is f es cs v = sym (ticked_rows (whole f es cs) v)
+pub ticked_front : (f : Front) (es cs : List ℕ) → valid (whole f es cs) ≡ true → whole (front_ticked f) es cs ≡ ticked (whole f es cs)
+ticked_front f es cs v = sym (ticked_rows (whole f es cs) v)

@@ -12,18 +12,18 @@ mod script;
 mod trial;
 mod words;
 
-use std::io;
 use texts::read_whole;
 
 // How many bytes of the list are read: more than it has.
 const ROOM: usize = 131072;
 
 // The list is read at once. One that fills the room may go on behind it: nothing of it is played, so that no end of it is lost unseen.
-fn main(rt: HostRuntime) -> io::Result<()> {
+fn main(rt: HostRuntime) {
     let mut room = [0u8; ROOM];
     let text = read_whole(&mut rt.stdin(), &mut room);
     if text.len() == ROOM {
-        return println!(rt; "The list of trials is longer than the program reads.");
+        let _ = println!(rt; "The list of trials is longer than the program reads.");
+        return;
     }
-    script::play(rt, text)
+    script::play(rt, text);
 }

@@ -2,7 +2,6 @@
 use super::damage::low_byte;
 use super::scenes::Scene;
 use super::words::{named_by, value_of};
-use std::io;
 
 // What a line asks for: a call, one of the queries, or an operation of the program's own.
 #[derive(Clone, Copy)]
@@ -63,11 +62,11 @@ pub(crate) struct Row {
 }
 
 // A word ends at a space, and there are at most eleven of them: the last stands for those behind it too.
-pub(crate) fn row_of(rt: HostRuntime, text: &[u8]) -> io::Result<Row> {
+pub(crate) fn row_of(rt: HostRuntime, text: &[u8]) -> Row {
     let mut numbers = [0; 11];
     let words = text.split(|b| *b == b' ').filter(|word| !word.is_empty());
     for (place, word) in words.enumerate() {
-        numbers[place.min(10)] = value_of(rt, word)?;
+        numbers[place.min(10)] = value_of(rt, word);
     }
     let [
         table,
@@ -82,7 +81,7 @@ pub(crate) fn row_of(rt: HostRuntime, text: &[u8]) -> io::Result<Row> {
         marks,
         mark,
     ] = numbers;
-    Ok(Row {
+    Row {
         scene: Scene::from(table),
         caller: low_byte(caller),
         ask: Ask::from(operation),
@@ -94,5 +93,5 @@ pub(crate) fn row_of(rt: HostRuntime, text: &[u8]) -> io::Result<Row> {
         last: low_byte(last),
         marks: low_byte(marks),
         mark: low_byte(mark),
-    })
+    }
 }

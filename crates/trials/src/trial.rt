@@ -7,32 +7,31 @@ use super::say::Shown;
 use super::scenes::table_of;
 use executive::{arrived, call, empty, full, priority, state};
 use rules::{Answer, Call, Operation, Table};
-use std::io;
 
 // A call: the answer, and whether the table has changed.
-fn called(rt: HostRuntime, before: Table, k: Call) -> io::Result<Table> {
+fn called(rt: HostRuntime, before: Table, k: Call) -> Table {
     let d = call(before, k);
     let ending = if d.table == before {
         "untouched"
     } else {
         "changed"
     };
-    println!(rt; ": {} {ending}", Shown(d.answer))?;
-    Ok(d.table)
+    let _ = println!(rt; ": {} {ending}", Shown(d.answer));
+    d.table
 }
 
 // A query: the answer alone, since the table stays.
-fn asked(rt: HostRuntime, table: Table, reply: Answer) -> io::Result<Table> {
-    println!(rt; ": {}", Shown(reply))?;
-    Ok(table)
+fn asked(rt: HostRuntime, table: Table, reply: Answer) -> Table {
+    let _ = println!(rt; ": {}", Shown(reply));
+    table
 }
 
 // A CLEAR of event 0 by task 0, on the table with c in field a at entry b. A change that changes nothing would be no trial.
-fn damaged(rt: HostRuntime, table: Table, r: Row) -> io::Result<Table> {
+fn damaged(rt: HostRuntime, table: Table, r: Row) -> Table {
     let other = spoiled(table, Field::from(r.a), r.b, r.c);
     if other == table {
-        println!(rt; ": nothing changed")?;
-        return Ok(table);
+        let _ = println!(rt; ": nothing changed");
+        return table;
     }
     let clear = Call {
         caller: 0,
@@ -45,7 +44,7 @@ fn damaged(rt: HostRuntime, table: Table, r: Row) -> io::Result<Table> {
 }
 
 // What a line asks for: a call, a query, or an operation of the program's own. Returns the table that it leaves.
-pub(crate) fn trial(rt: HostRuntime, r: Row, before: Table) -> io::Result<Table> {
+pub(crate) fn trial(rt: HostRuntime, r: Row, before: Table) -> Table {
     let table = table_of(r.scene, before);
     let Row {
         caller,
@@ -75,12 +74,12 @@ pub(crate) fn trial(rt: HostRuntime, r: Row, before: Table) -> io::Result<Table>
         Ask::Configure => benched(rt, r),
         Ask::List => listed(rt, r),
         Ask::Lengthen => {
-            lengthened(rt)?;
-            Ok(table)
+            lengthened(rt);
+            table
         }
         Ask::Marks => {
-            marked(rt, low_byte(a))?;
-            Ok(table)
+            marked(rt, low_byte(a));
+            table
         }
     }
 }

@@ -5,7 +5,6 @@ use super::damage::FIELDS;
 use super::rows::{ASKS, FIRST_ASK};
 use super::scenes::SCENES;
 use rules::{OUTSIDE, Operation};
-use std::io;
 use texts::number_in;
 
 // The thirteen operations, WAIT's operators, a number that is not read, and the caller that is no task.
@@ -56,12 +55,12 @@ fn number_named(word: &[u8]) -> Option<u32> {
 }
 
 // The number that a word stands for. An unknown word is written out, so that it can't go unseen.
-pub(crate) fn value_of(rt: HostRuntime, word: &[u8]) -> io::Result<u32> {
+pub(crate) fn value_of(rt: HostRuntime, word: &[u8]) -> u32 {
     if let Some(n) = number_in(word).or_else(|| number_named(word)) {
-        return Ok(n);
+        return n;
     }
-    print!(rt; "unknown: ")?;
-    rt.write_all(word)?;
-    println!(rt)?;
-    Ok(u32::MAX)
+    let _ = print!(rt; "unknown: ");
+    let _ = rt.write_all(word);
+    let _ = println!(rt);
+    u32::MAX
 }

@@ -26,11 +26,11 @@ fn await_fits(tasks: u8, i: u8, state: u8, entry: u8, mark: u8, h: u8) -> bool
 fn awaits_right(f: &Front) -> bool
     ensures { result ≡ awaits_fit f.now.tasks f.now.state f.now.awaits f.now.opened f.now.holder }
 {
-    (0..TASKS).all(|i| {
+    (0..TASKS).fold(true, |ok, i| {
         let r = region_named(f.awaits[i]);
         let mark = byte_at(&f.opened, r);
         let h = byte_at(&f.holder, r);
-        await_fits(f.tasks, i as u8, f.state[i], f.awaits[i], mark, h)
+        ok & await_fits(f.tasks, i as u8, f.state[i], f.awaits[i], mark, h)
     })
 }
 

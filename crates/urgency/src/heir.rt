@@ -23,7 +23,7 @@ fn place_of(waits: bool) -> u8
 fn line_of(f: &Front, r: usize) -> [u8; TASKS]
     ensures { result ≡ line f.now.awaits r }
 {
-    f.awaits.map(|entry| place_of(names_it(entry, r)))
+    std::array::from_fn(|i| place_of(names_it(f.awaits[i], r)))
 }
 
 // A task's urgency, if it is in line; nobody asks for the others'.

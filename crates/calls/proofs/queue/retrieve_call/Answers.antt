@@ -2,7 +2,7 @@
 use Rattle.tables.specs.Fronts.{whole}
 use Rattle.queues.proofs.Places.{place_within}
 use Rattle.calls.proofs.Together.{in_parts}
-use Rattle.calls.proofs.Done.{retrieve_finds, retrieve_step}
+use Rattle.calls.proofs.Done.{retrieve_finds, retrieve_found}
 use Rattle.rules.specs.Commands.{its_call}
 use Rattle.calls.proofs.queue.retrieve_call.Goals as goal
 
@@ -21,5 +21,5 @@ returns c =
     λ z.
     rw c.plain-2.ensures
     (in_parts
-    (retrieve_step (whole c.args.t c.args.store.now.element c.args.store.now.criterion) (its_call c.args.k) z c.requires
+    (retrieve_found (whole c.args.t c.args.store.now.element c.args.store.now.criterion) (its_call c.args.k) z c.requires
     c.in-Some.ensures c.close_gap.ensures.elements c.close_gap.ensures.criteria))
